@@ -1,0 +1,86 @@
+-- Facts of every member and of every two places of a list: one more at the end, and another order. Assumes nothing.
+use mathlib.Core.Path.{_≡_, refl, sym, ap, _∙_, subst}
+use mathlib.Core.Logic.{_⊎_, inl, inr}
+use mathlib.Core.List.{List, [], _∷_, _++_, List·Memᴰ, List·Memᴰ·head, List·Memᴰ·tail, List·Memᴰ·cases-cons, List·Memᴰ·not-nil, Memᴰ·append-left, Memᴰ·append-right, List·Memᴰ·append-cases, List·Memᴰ·eq-of-singleton, List·Permᴰ, List·Permᴰ·nil, List·Permᴰ·cons, List·Permᴰ·swap, List·Permᴰ·trans, Permᴰ·symm}
+use Prim.Native.Nat.{ℕ, suc}
+use native.Mathlib.Omega.{arith}
+use lib.ListN.{length, length-append}
+use Rattle.sheet.specs.Listing.{_∈_}
+use Rattle.sheet.specs.Accepted.{Pairwise}
+
+-- ---- every member
+
+module _ {A : Type 0} (P : A → Type 0) where
+  pub all-cons : {x : A} {l : List A} → P x → ((y : A) → y ∈ l → P y) → (y : A) → y ∈ (x ∷ l) → P y
+  all-cons {x} {l} p f y m = go (List·Memᴰ·cases-cons m)
+    where
+      go : (y ≡ x) ⊎ (y ∈ l) → P y
+      go (inl e) = subst P (sym e) p
+      go (inr n) = f y n
+
+  module _ (l : List A) (x : A) where
+    pub all-snoc : ((y : A) → y ∈ l → P y) → P x → (y : A) → y ∈ (l ++ (x ∷ [])) → P y
+    all-snoc f p y m = go (List·Memᴰ·append-cases l m)
+      where
+        go : (y ∈ l) ⊎ (y ∈ (x ∷ [])) → P y
+        go (inl n) = f y n
+        go (inr n) = subst P (sym (List·Memᴰ·eq-of-singleton n)) p
+
+    pub all-init : ((y : A) → y ∈ (l ++ (x ∷ [])) → P y) → (y : A) → y ∈ l → P y
+    all-init f y m = f y (Memᴰ·append-left (x ∷ []) m)
+
+    pub all-last : ((y : A) → y ∈ (l ++ (x ∷ [])) → P y) → P x
+    all-last f = f x (Memᴰ·append-right l (List·Memᴰ·head refl))
+
+pub one-more : {A : Type 0} (l : List A) (x : A) → length (l ++ (x ∷ [])) ≡ suc (length l)
+one-more l x = let h = length-append l (x ∷ []) in omega arith
+
+-- ---- every two places
+
+module _ {A : Type 0} (R : A → A → Type 0) where
+  pub pairs-snoc : (l : List A) (x : A) → Pairwise R l → ((y : A) → y ∈ l → R y x) → Pairwise R (l ++ (x ∷ []))
+  pairs-snoc [] x p f = (λ y m. absurd (List·Memᴰ·not-nil m), tt)
+  pairs-snoc (z ∷ l) x p f = (all-snoc (R z) l x (p .0) (f z (List·Memᴰ·head refl)), pairs-snoc l x (p .1) (λ y m. f y (List·Memᴰ·tail m)))
+
+  pub pairs-init : (l : List A) (x : A) → Pairwise R (l ++ (x ∷ [])) → Pairwise R l
+  pairs-init [] x p = tt
+  pairs-init (z ∷ l) x p = (all-init (R z) l x (p .0), pairs-init l x (p .1))
+
+  pub pairs-last : (l : List A) (x : A) → Pairwise R (l ++ (x ∷ [])) → (y : A) → y ∈ l → R y x
+  pairs-last [] x p y m = absurd (List·Memᴰ·not-nil m)
+  pairs-last (z ∷ l) x p y m = all-cons (λ y. R y x) (all-last (R z) l x (p .0)) (pairs-last l x (p .1)) y m
+
+  -- two members are the same one or stand at two places
+  pub pairwise-at : (l : List A) → Pairwise R l → {x y : A} → x ∈ l → y ∈ l → (x ≡ y) ⊎ (R x y ⊎ R y x)
+  pairwise-at [] p m n = elim m [ ]
+  pairwise-at (z ∷ l) p (List·Memᴰ·head e) (List·Memᴰ·head f) = inl (e ∙ sym f)
+  pairwise-at (z ∷ l) p {x} {y} (List·Memᴰ·head e) (List·Memᴰ·tail n) = inr (inl (subst (λ v. R v y) (sym e) (p .0 y n)))
+  pairwise-at (z ∷ l) p {x} {y} (List·Memᴰ·tail m) (List·Memᴰ·head f) = inr (inr (subst (λ v. R v x) (sym f) (p .0 x m)))
+  pairwise-at (z ∷ l) p (List·Memᴰ·tail m) (List·Memᴰ·tail n) = pairwise-at l (p .1) m n
+
+-- ---- another order
+
+module _ {A : Type 0} where
+  pub perm-mem : {l k : List A} → List·Permᴰ l k → (x : A) → x ∈ l → x ∈ k
+  perm-mem List·Permᴰ·nil x m = m
+  perm-mem (List·Permᴰ·cons {a = a} {b = b} {l₁ = l₁} {l₂ = l₂} e p) x m = all-cons (λ x. x ∈ (b ∷ l₂)) (List·Memᴰ·head e) (λ y n. List·Memᴰ·tail (perm-mem p y n)) x m
+  perm-mem (List·Permᴰ·swap {a = a} {b = b} {a′ = a′} {b′ = b′} {l = l} e f) x m =
+      all-cons (λ x. x ∈ (a′ ∷ b′ ∷ l)) (List·Memᴰ·tail (List·Memᴰ·head e))
+      (all-cons (λ x. x ∈ (a′ ∷ b′ ∷ l)) (List·Memᴰ·head f) (λ y n. List·Memᴰ·tail (List·Memᴰ·tail n))) x m
+  perm-mem (List·Permᴰ·trans p q) x m = perm-mem q x (perm-mem p x m)
+
+  pub perm-length : {l k : List A} → List·Permᴰ l k → length l ≡ length k
+  perm-length List·Permᴰ·nil = refl
+  perm-length (List·Permᴰ·cons e p) = ap suc (perm-length p)
+  perm-length (List·Permᴰ·swap e f) = refl
+  perm-length (List·Permᴰ·trans p q) = perm-length p ∙ perm-length q
+
+  module _ (R : A → A → Type 0) (flip : (x y : A) → R x y → R y x) where
+    pub perm-pairs : {l k : List A} → List·Permᴰ l k → Pairwise R l → Pairwise R k
+    perm-pairs List·Permᴰ·nil h = h
+    perm-pairs (List·Permᴰ·cons {a = a} {b = b} e p) h = (λ y m. subst (λ x. R x y) e (h .0 y (perm-mem (Permᴰ·symm p) y m)), perm-pairs p (h .1))
+    perm-pairs (List·Permᴰ·swap {a = a} {b = b} {a′ = a′} {b′ = b′} {l = l} e f) h = (
+      all-cons (R a′) (subst (λ z. R z b′) f (flip b′ b (subst (λ z. R z b) e (h .0 b (List·Memᴰ·head refl))))) (λ y n. subst (λ z. R z y) f (h .1 .0 y n)),
+      (λ y m. subst (λ x. R x y) e (h .0 y (List·Memᴰ·tail m)), h .1 .1),
+    )
+    perm-pairs (List·Permᴰ·trans p q) h = perm-pairs q (perm-pairs p h)
