@@ -1,0 +1,125 @@
+//! Sheets and what is expected of them, for a program that is compared with this implementation.
+//!
+//! - `vectors sheets` writes framed sheets, and a histogram of their refusals to standard error.
+//! - `vectors expected`, `vectors rolls` and `vectors cells` read such frames and print a line for
+//!   each: what the reader and the writer give, the cells entered and the roll, the cell listings.
+//! - `vectors roll` reads one sheet without a frame and prints what program `roll` prints.
+
+#![forbid(unsafe_code)]
+
+use reference::cells::{self, Cell, FIGURES};
+use reference::roll::{roll, roll_bytes};
+use reference::sheet::{ordered_form, read, Records};
+use reference::{chosen, frames, made_up};
+use std::collections::BTreeMap;
+use std::io::{self, BufWriter, Read, Write};
+use std::process::ExitCode;
+
+const SEED: u64 = 1;
+/// The figure of program `roll`, and of the cell listings.
+const FIGURE: u64 = 8;
+const USAGE: &str = "usage: vectors sheets | expected | rolls | cells | roll";
+
+/// How many sheets get each refusal; 0 stands for accepted.
+fn histogram(sheets: &[Vec<u8>]) -> BTreeMap<u8, usize> {
+    let mut counts = BTreeMap::new();
+    for sheet in sheets {
+        let number = read(sheet).err().map_or(0, |refusal| refusal.number);
+        *counts.entry(number).or_default() += 1;
+    }
+    counts
+}
+
+fn print_histogram(sheets: &[Vec<u8>]) {
+    let bytes: usize = sheets.iter().map(|sheet| 2 + sheet.len()).sum();
+    eprintln!("{} sheets, {bytes} bytes", sheets.len());
+    for (number, count) in histogram(sheets) {
+        match number {
+            0 => eprintln!("accepted {count}"),
+            _ => eprintln!("refused {number}: {count}"),
+        }
+    }
+}
+
+fn write_sheets(out: &mut impl Write) -> io::Result<()> {
+    let sheets = [chosen::all(), made_up::all(SEED)].concat();
+    for sheet in &sheets {
+        frames::write_frame(out, sheet)?;
+    }
+    print_histogram(&sheets);
+    Ok(())
+}
+
+/// Prints for each framed sheet its refusal or, if it is accepted, the line for its records.
+fn print_lines(out: &mut impl Write, line: fn(&Records) -> String) -> io::Result<()> {
+    for sheet in frames::read_frames(&mut io::stdin())? {
+        match read(&sheet) {
+            Err(refusal) => writeln!(out, "{refusal}")?,
+            Ok(records) => writeln!(out, "{}", line(&records))?,
+        }
+    }
+    Ok(())
+}
+
+fn hexadecimal(bytes: &[u8]) -> String {
+    bytes.iter().map(|byte| format!("{byte:02x}")).collect()
+}
+
+/// Numbers of tracks and walls, and the ordered form.
+fn ordered_line(records: &Records) -> String {
+    let Records { tracks, walls } = records;
+    format!("{} {} {}", tracks.len(), walls.len(), hexadecimal(&ordered_form(tracks, walls)))
+}
+
+/// The cells entered at each of the six figures, then the roll's bytes (none without tracks).
+fn roll_line(records: &Records) -> String {
+    let rows = roll(records);
+    let counts = FIGURES.map(|figure| cells::count(records, &rows, figure).to_string());
+    format!("{} {}", counts.join(" "), hexadecimal(&roll_bytes(&rows)))
+}
+
+/// Each cell with a point of a trace, as `column,row:id,id`; by columns, then rows, ids rising.
+fn cells_line(records: &Records) -> String {
+    let rows = roll(records);
+    let all = (0..FIGURE).flat_map(|column| (0..FIGURE).map(move |row| Cell { column, row }));
+    let entry = |cell: Cell| {
+        let ids = cells::ids_in(records, &rows, FIGURE, cell);
+        let ids: Vec<String> = ids.iter().map(u16::to_string).collect();
+        (!ids.is_empty()).then(|| format!("{},{}:{}", cell.column, cell.row, ids.join(",")))
+    };
+    all.filter_map(entry).collect::<Vec<_>>().join(" ")
+}
+
+fn print_roll(out: &mut impl Write) -> io::Result<()> {
+    let mut sheet = Vec::new();
+    io::stdin().read_to_end(&mut sheet)?;
+    let records = match read(&sheet) {
+        Err(refusal) => return writeln!(out, "{refusal}"),
+        Ok(records) => records,
+    };
+    let rows = roll(&records);
+    writeln!(out, "tracks {} cells {}", rows.len(), cells::count(&records, &rows, FIGURE))?;
+    for row in &rows {
+        writeln!(out, "{row}")?;
+    }
+    Ok(())
+}
+
+fn main() -> ExitCode {
+    let mut out = BufWriter::new(io::stdout().lock());
+    let done = match std::env::args().nth(1).as_deref() {
+        Some("sheets") => write_sheets(&mut out),
+        Some("expected") => print_lines(&mut out, ordered_line),
+        Some("rolls") => print_lines(&mut out, roll_line),
+        Some("cells") => print_lines(&mut out, cells_line),
+        Some("roll") => print_roll(&mut out),
+        _ => Err(io::Error::other(USAGE)),
+    };
+    match done.and_then(|()| out.flush()) {
+        Ok(()) => ExitCode::SUCCESS,
+        Err(error) => {
+            eprintln!("{error}");
+            ExitCode::FAILURE
+        }
+    }
+}

@@ -1,0 +1,153 @@
+//! Document 01, "Grid, events, cells": which cells hold a point of a trace, cell by cell.
+//!
+//! The times at which a tip is in one column are an interval, and so are those in one row. A cell
+//! holds a point of the trace when the two have a time in common up to the tip's exact end.
+
+use crate::fraction::Fraction;
+use crate::refusal::{Refusal, GRID_FIGURE, OUTSIDE_GRID};
+use crate::roll::{roll, Row};
+use crate::sheet::{Records, Track};
+use std::collections::BTreeSet;
+
+/// The grid figures.
+pub const FIGURES: [u64; 6] = [1, 2, 4, 8, 16, 32];
+
+#[derive(Clone, Copy, Debug, PartialEq, Eq, PartialOrd, Ord)]
+pub struct Cell {
+    pub column: u64,
+    pub row: u64,
+}
+
+/// An interval of times, each end taken in or not.
+#[derive(Clone, Copy)]
+struct Times {
+    from: Fraction,
+    takes_in_from: bool,
+    to: Fraction,
+    takes_in_to: bool,
+}
+
+impl Times {
+    fn up_to(end: Fraction) -> Self {
+        Times { from: Fraction::ZERO, takes_in_from: true, to: end, takes_in_to: true }
+    }
+
+    fn not_before(self, from: Fraction) -> Self {
+        if from > self.from {
+            Times { from, takes_in_from: true, ..self }
+        } else {
+            self
+        }
+    }
+
+    fn after(self, from: Fraction) -> Self {
+        if from >= self.from {
+            Times { from, takes_in_from: false, ..self }
+        } else {
+            self
+        }
+    }
+
+    fn not_after(self, to: Fraction) -> Self {
+        if to < self.to {
+            Times { to, takes_in_to: true, ..self }
+        } else {
+            self
+        }
+    }
+
+    fn before(self, to: Fraction) -> Self {
+        if to <= self.to {
+            Times { to, takes_in_to: false, ..self }
+        } else {
+            self
+        }
+    }
+
+    fn is_empty(self) -> bool {
+        self.from > self.to || self.from == self.to && !(self.takes_in_from && self.takes_in_to)
+    }
+
+    /// Those of the times at which low ≤ start + speed × t < high, if there are any.
+    fn within(self, start: u16, speed: i8, low: u64, high: u64) -> Option<Times> {
+        let reaches = |line: u64| {
+            let way = i128::from(line) - i128::from(start);
+            Fraction::new(way, speed)
+        };
+        let kept = match speed.signum() {
+            1 => self.not_before(reaches(low)).before(reaches(high)),
+            -1 => self.after(reaches(high)).not_after(reaches(low)),
+            _ if (low..high).contains(&start.into()) => self,
+            _ => return None,
+        };
+        (!kept.is_empty()).then_some(kept)
+    }
+}
+
+/// The times up to `end` at which the tip is in the column.
+fn times_in_column(track: &Track, end: Fraction, side: u64, column: u64) -> Option<Times> {
+    Times::up_to(end).within(track.x, track.vx, column * side, (column + 1) * side)
+}
+
+fn also_in_row(times: Times, track: &Track, side: u64, row: u64) -> bool {
+    times.within(track.y, track.vy, row * side, (row + 1) * side).is_some()
+}
+
+/// All cells that hold a point of the trace, which goes to `end`.
+pub fn cells_of(track: &Track, end: Fraction, figure: u64) -> Vec<Cell> {
+    let side = 4096 / figure;
+    let mut cells = Vec::new();
+    for column in 0..figure {
+        let Some(times) = times_in_column(track, end, side, column) else { continue };
+        let rows = (0..figure).filter(|row| also_in_row(times, track, side, *row));
+        cells.extend(rows.map(|row| Cell { column, row }));
+    }
+    cells
+}
+
+/// The tracks of an accepted sheet, each with its exact end.
+fn traces<'a>(
+    records: &'a Records,
+    rows: &'a [Row],
+) -> impl Iterator<Item = (&'a Track, Fraction)> {
+    let end_of = |track: &Track| rows.iter().find(|row| row.id == track.id).map(|row| row.time);
+    records.tracks.iter().map(move |track| (track, end_of(track).expect("a row for each track")))
+}
+
+/// The cells entered: how many hold a point of a trace, summed over the traces.
+pub fn count(records: &Records, rows: &[Row], figure: u64) -> usize {
+    traces(records, rows).map(|(track, end)| cells_of(track, end, figure).len()).sum()
+}
+
+/// The ids of the tracks with a point in the cell.
+pub fn ids_in(records: &Records, rows: &[Row], figure: u64, cell: Cell) -> BTreeSet<u16> {
+    let has_point = |(track, end): &(&Track, Fraction)| {
+        let side = 4096 / figure;
+        times_in_column(track, *end, side, cell.column)
+            .is_some_and(|times| also_in_row(times, track, side, cell.row))
+    };
+    traces(records, rows).filter(has_point).map(|(track, _)| track.id).collect()
+}
+
+fn check_figure(figure: u64) -> Result<(), Refusal> {
+    if FIGURES.contains(&figure) {
+        Ok(())
+    } else {
+        Err(Refusal { number: GRID_FIGURE, place: figure as usize })
+    }
+}
+
+/// The cells entered, or the refusal of the figure.
+pub fn cells_entered(records: &Records, figure: u64) -> Result<usize, Refusal> {
+    check_figure(figure)?;
+    Ok(count(records, &roll(records), figure))
+}
+
+/// The cell listing, or the refusal of the figure or the cell.
+pub fn listing(records: &Records, figure: u64, cell: Cell) -> Result<BTreeSet<u16>, Refusal> {
+    check_figure(figure)?;
+    if cell.column.max(cell.row) >= figure {
+        return Err(Refusal { number: OUTSIDE_GRID, place: 0 });
+    }
+    Ok(ids_in(records, &roll(records), figure, cell))
+}

@@ -1,0 +1,44 @@
+//! Chosen sheets: document 01's own, each line of its refusal table at its limits, and endings
+//! that the rule has to tell apart.
+
+pub mod document;
+pub mod endings;
+pub mod form;
+pub mod geometry;
+pub mod limits;
+pub mod together;
+
+use crate::sheet::{Command, Track, Wall};
+
+pub fn track(id: u16, x: u16, y: u16, vx: i8, vy: i8) -> Command {
+    Command::Track(Track { id, x, y, vx, vy })
+}
+
+pub fn wall(id: u16, ax: u16, ay: u16, bx: u16, by: u16) -> Command {
+    Command::Wall(Wall { id, ax, ay, bx, by })
+}
+
+/// `count` tracks with ids from 0, in columns of 16, all going the same way.
+pub fn tracks(count: u16) -> Vec<Command> {
+    (0..count).map(|i| track(i, 10 + i / 16 * 200, 10 + i % 16 * 200, 1, 2)).collect()
+}
+
+/// `count` walls with ids from 0, between the starts of `tracks`.
+pub fn walls(count: u16) -> Vec<Command> {
+    (0..count)
+        .map(|i| (i, 100 + i / 16 * 200, 100 + i % 16 * 200))
+        .map(|(i, x, y)| wall(i, x, y, x + 20, y + 30))
+        .collect()
+}
+
+/// Every chosen sheet in bytes.
+pub fn all() -> Vec<Vec<u8>> {
+    let document = document::sheets().into_iter().map(|(_, sheet)| sheet);
+    document
+        .chain(form::sheets())
+        .chain(limits::sheets())
+        .chain(together::sheets())
+        .chain(geometry::sheets())
+        .chain(endings::sheets())
+        .collect()
+}

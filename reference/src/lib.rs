@@ -1,0 +1,15 @@
+//! Fissure sheets worked out a second time, apart from the proved library, so that the two can be
+//! compared. Document 01 is the only thing they have in common.
+
+#![forbid(unsafe_code)]
+
+pub mod cells;
+pub mod chosen;
+pub mod fraction;
+pub mod frames;
+pub mod made_up;
+pub mod plane;
+pub mod refusal;
+pub mod rng;
+pub mod roll;
+pub mod sheet;

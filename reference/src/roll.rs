@@ -1,0 +1,218 @@
+//! Document 01, "The rule of ending": the roll of an accepted sheet, by one sweep over time.
+//!
+//! Everything that could end a tip is listed first, whether or not it comes to pass: each wall and
+//! each other tip's line that it runs into, and the edge. In order of time, an entry ends its tip
+//! if that still runs and the other tip had not ended before it got there.
+
+use crate::fraction::Fraction;
+use crate::plane::Vector;
+use crate::sheet::{Records, Track, Wall, MAX_COORDINATE};
+use std::fmt;
+
+#[derive(Clone, Copy, Debug, PartialEq, Eq)]
+pub enum Ending {
+    /// At a point that the partner had passed.
+    Track(u16),
+    /// Together with the partner.
+    Meeting(u16),
+    Wall(u16),
+    Edge,
+}
+
+#[derive(Clone, Copy, Debug, PartialEq, Eq)]
+pub struct Row {
+    pub id: u16,
+    pub ending: Ending,
+    pub time: Fraction,
+    /// The end point in 64ths of a unit, rounded down.
+    pub x: u32,
+    pub y: u32,
+}
+
+impl Ending {
+    pub fn kind(self) -> u8 {
+        match self {
+            Ending::Track(_) => 1,
+            Ending::Meeting(_) => 2,
+            Ending::Wall(_) => 3,
+            Ending::Edge => 4,
+        }
+    }
+
+    pub fn partner(self) -> u16 {
+        match self {
+            Ending::Track(id) | Ending::Meeting(id) | Ending::Wall(id) => id,
+            Ending::Edge => 0,
+        }
+    }
+}
+
+impl Row {
+    pub const LENGTH: usize = 29;
+
+    fn new(track: &Track, time: Fraction, ending: Ending) -> Self {
+        let in_64ths = |start: u16, speed: i8| {
+            let exact = Fraction::whole(start) + Fraction::whole(speed) * time;
+            let rounded = (Fraction::whole(64) * exact).floor();
+            u32::try_from(rounded).expect("an end point inside the sheet")
+        };
+        let (x, y) = (in_64ths(track.x, track.vx), in_64ths(track.y, track.vy));
+        Row { id: track.id, ending, time, x, y }
+    }
+
+    /// Numerator and denominator of the time, without a common factor.
+    pub fn time_in_lowest_terms(&self) -> (u64, u64) {
+        let (numerator, denominator) = self.time.lowest();
+        let part = |number| u64::try_from(number).expect("a time that is not negative");
+        (part(numerator), part(denominator))
+    }
+
+    fn append_to(&self, bytes: &mut Vec<u8>) {
+        let (numerator, denominator) = self.time_in_lowest_terms();
+        bytes.extend(self.id.to_le_bytes());
+        bytes.push(self.ending.kind());
+        bytes.extend(self.ending.partner().to_le_bytes());
+        bytes.extend(numerator.to_le_bytes());
+        bytes.extend(denominator.to_le_bytes());
+        bytes.extend(self.x.to_le_bytes());
+        bytes.extend(self.y.to_le_bytes());
+    }
+}
+
+/// As program `roll` prints it: id, kind, partner, time, x and y in 64ths.
+impl fmt::Display for Row {
+    fn fmt(&self, f: &mut fmt::Formatter<'_>) -> fmt::Result {
+        let Row { id, ending, x, y, .. } = self;
+        let (numerator, denominator) = self.time_in_lowest_terms();
+        let (kind, partner) = (ending.kind(), ending.partner());
+        write!(f, "{id} {kind} {partner} {numerator}/{denominator} {x} {y}")
+    }
+}
+
+/// What may end a tip. Of several at one time the first in this order is named: a track before a
+/// wall, a wall before the edge, and within a kind the smallest id.
+#[derive(Clone, Copy, Debug, PartialEq, Eq, PartialOrd, Ord)]
+enum Cause {
+    /// The other track's id, its place among the tracks, and when it got to the point.
+    Track {
+        id: u16,
+        index: usize,
+        reached: Fraction,
+    },
+    Wall {
+        id: u16,
+    },
+    Edge,
+}
+
+/// An entry of the sweep. Its order is that of the roll, and then that of causes.
+#[derive(Clone, Copy, Debug, PartialEq, Eq, PartialOrd, Ord)]
+struct Event {
+    time: Fraction,
+    id: u16,
+    index: usize,
+    cause: Cause,
+}
+
+/// When tip `a` gets to a point of the line of tip `b`, and when `b` got there, if `b` is first or
+/// both come together.
+fn contact_with_track(a: &Track, b: &Track) -> Option<(Fraction, Fraction)> {
+    let (v, w) = (a.speed(), b.speed());
+    let between = b.start() - a.start();
+    let turn = v.cross(w);
+    if turn == 0 {
+        return contact_along_line(v, w, between);
+    }
+    let time = Fraction::new(between.cross(w), turn);
+    let reached = Fraction::new(between.cross(v), turn);
+    (Fraction::ZERO <= reached && reached <= time).then_some((time, reached))
+}
+
+/// On one line only the tip behind can be ended by the other, and it is, at the other's start.
+/// The one in front never meets a trace of one behind: that one goes no further than this start.
+fn contact_along_line(v: Vector, w: Vector, between: Vector) -> Option<(Fraction, Fraction)> {
+    let behind = v.cross(between) == 0 && v.dot(w) > 0 && v.dot(between) > 0;
+    behind.then(|| (Fraction::new(v.dot(between), v.dot(v)), Fraction::ZERO))
+}
+
+fn contact_with_wall(track: &Track, wall: &Wall) -> Option<Fraction> {
+    let (v, along) = (track.speed(), wall.b() - wall.a());
+    let (to_a, to_b) = (wall.a() - track.start(), wall.b() - track.start());
+    let turn = v.cross(along);
+    if turn == 0 {
+        let nearer = v.dot(to_a).min(v.dot(to_b));
+        let ahead = v.cross(to_a) == 0 && nearer > 0;
+        return ahead.then(|| Fraction::new(nearer, v.dot(v)));
+    }
+    let time = Fraction::new(to_a.cross(along), turn);
+    let part = Fraction::new(to_a.cross(v), turn);
+    let on_wall = Fraction::ZERO <= part && part <= Fraction::ONE;
+    (on_wall && time >= Fraction::ZERO).then_some(time)
+}
+
+/// The last moment inside the sheet.
+fn contact_with_edge(track: &Track) -> Fraction {
+    let last = |start: u16, speed: i8| {
+        let room = if speed > 0 { MAX_COORDINATE - start } else { start };
+        (speed != 0).then(|| Fraction::new(room, speed.unsigned_abs()))
+    };
+    let times = [last(track.x, track.vx), last(track.y, track.vy)];
+    times.into_iter().flatten().min().expect("a tip that moves")
+}
+
+fn events_of(index: usize, records: &Records) -> Vec<Event> {
+    let track = &records.tracks[index];
+    let event = |time, cause| Event { time, id: track.id, index, cause };
+    let mut events = vec![event(contact_with_edge(track), Cause::Edge)];
+    for wall in &records.walls {
+        if let Some(time) = contact_with_wall(track, wall) {
+            events.push(event(time, Cause::Wall { id: wall.id }));
+        }
+    }
+    for (other, partner) in records.tracks.iter().enumerate() {
+        if let Some((time, reached)) = contact_with_track(track, partner) {
+            events.push(event(time, Cause::Track { id: partner.id, index: other, reached }));
+        }
+    }
+    events
+}
+
+/// The roll of an accepted sheet: all rows by rising time, equal times by rising id.
+pub fn roll(records: &Records) -> Vec<Row> {
+    let mut events: Vec<Event> =
+        (0..records.tracks.len()).flat_map(|index| events_of(index, records)).collect();
+    events.sort_unstable();
+    let mut ended: Vec<Option<Fraction>> = vec![None; records.tracks.len()];
+    let mut rows = Vec::with_capacity(records.tracks.len());
+    for Event { time, index, cause, .. } in events {
+        let counts = match cause {
+            Cause::Track { index: other, reached, .. } => {
+                ended[other].is_none_or(|end| end >= reached)
+            }
+            Cause::Wall { .. } | Cause::Edge => true,
+        };
+        if ended[index].is_none() && counts {
+            ended[index] = Some(time);
+            rows.push(Row::new(&records.tracks[index], time, ending(cause, time)));
+        }
+    }
+    rows
+}
+
+fn ending(cause: Cause, time: Fraction) -> Ending {
+    match cause {
+        Cause::Track { id, reached, .. } if reached < time => Ending::Track(id),
+        Cause::Track { id, .. } => Ending::Meeting(id),
+        Cause::Wall { id } => Ending::Wall(id),
+        Cause::Edge => Ending::Edge,
+    }
+}
+
+/// The rows in bytes, 29 each.
+pub fn roll_bytes(rows: &[Row]) -> Vec<u8> {
+    let mut bytes = Vec::with_capacity(rows.len() * Row::LENGTH);
+    for row in rows {
+        row.append_to(&mut bytes);
+    }
+    bytes
+}

@@ -1,0 +1,271 @@
+//! Document 01, "The sheet": records, the reader, the check of handed-in records and the writer.
+
+use crate::plane::Vector;
+use crate::refusal::*;
+
+pub const MAX_RECORDS: usize = 256;
+pub const MAX_COORDINATE: u16 = 4095;
+pub const MAX_SPEED: i8 = 63;
+
+#[derive(Clone, Copy, Debug, PartialEq, Eq)]
+pub struct Track {
+    pub id: u16,
+    pub x: u16,
+    pub y: u16,
+    pub vx: i8,
+    pub vy: i8,
+}
+
+#[derive(Clone, Copy, Debug, PartialEq, Eq)]
+pub struct Wall {
+    pub id: u16,
+    pub ax: u16,
+    pub ay: u16,
+    pub bx: u16,
+    pub by: u16,
+}
+
+#[derive(Clone, Copy, Debug, PartialEq, Eq)]
+pub enum Command {
+    End,
+    Track(Track),
+    Wall(Wall),
+}
+
+/// The records of a sheet, in the order in which it lists them.
+#[derive(Clone, Debug, Default, PartialEq, Eq)]
+pub struct Records {
+    pub tracks: Vec<Track>,
+    pub walls: Vec<Wall>,
+}
+
+impl Track {
+    pub const LENGTH: usize = 9;
+
+    pub fn start(&self) -> Vector {
+        Vector::new(self.x, self.y)
+    }
+
+    pub fn speed(&self) -> Vector {
+        Vector::new(self.vx, self.vy)
+    }
+
+    pub fn to_bytes(self) -> [u8; Self::LENGTH] {
+        let [id0, id1] = self.id.to_le_bytes();
+        let [x0, x1] = self.x.to_le_bytes();
+        let [y0, y1] = self.y.to_le_bytes();
+        let [vx] = self.vx.to_le_bytes();
+        let [vy] = self.vy.to_le_bytes();
+        [1, id0, id1, x0, x1, y0, y1, vx, vy]
+    }
+
+    fn from_operands(b: &[u8; Self::LENGTH - 1]) -> Self {
+        Track {
+            id: u16::from_le_bytes([b[0], b[1]]),
+            x: u16::from_le_bytes([b[2], b[3]]),
+            y: u16::from_le_bytes([b[4], b[5]]),
+            vx: i8::from_le_bytes([b[6]]),
+            vy: i8::from_le_bytes([b[7]]),
+        }
+    }
+
+    fn has_good_speed(&self) -> bool {
+        let allowed = -MAX_SPEED..=MAX_SPEED;
+        allowed.contains(&self.vx) && allowed.contains(&self.vy) && (self.vx, self.vy) != (0, 0)
+    }
+
+    /// Both tips are on one line, each start ahead of the other tip.
+    fn faces(&self, other: &Track) -> bool {
+        let (v, w) = (self.speed(), other.speed());
+        let between = other.start() - self.start();
+        v.cross(w) == 0 && v.cross(between) == 0 && v.dot(between) > 0 && w.dot(between) < 0
+    }
+}
+
+impl Wall {
+    pub const LENGTH: usize = 11;
+
+    pub fn a(&self) -> Vector {
+        Vector::new(self.ax, self.ay)
+    }
+
+    pub fn b(&self) -> Vector {
+        Vector::new(self.bx, self.by)
+    }
+
+    pub fn to_bytes(self) -> [u8; Self::LENGTH] {
+        let [id0, id1] = self.id.to_le_bytes();
+        let [ax0, ax1] = self.ax.to_le_bytes();
+        let [ay0, ay1] = self.ay.to_le_bytes();
+        let [bx0, bx1] = self.bx.to_le_bytes();
+        let [by0, by1] = self.by.to_le_bytes();
+        [2, id0, id1, ax0, ax1, ay0, ay1, bx0, bx1, by0, by1]
+    }
+
+    fn from_operands(b: &[u8; Self::LENGTH - 1]) -> Self {
+        Wall {
+            id: u16::from_le_bytes([b[0], b[1]]),
+            ax: u16::from_le_bytes([b[2], b[3]]),
+            ay: u16::from_le_bytes([b[4], b[5]]),
+            bx: u16::from_le_bytes([b[6], b[7]]),
+            by: u16::from_le_bytes([b[8], b[9]]),
+        }
+    }
+
+    /// The point is on the wall, ends included: on its line, and between its ends.
+    fn holds(&self, point: Vector) -> bool {
+        let (to_a, to_b) = (self.a() - point, self.b() - point);
+        to_a.cross(to_b) == 0 && to_a.dot(to_b) <= 0
+    }
+}
+
+impl Command {
+    fn parse(rest: &[u8]) -> Result<Command, u8> {
+        match rest {
+            [0, ..] => Ok(Command::End),
+            [1, operands @ ..] => operands
+                .first_chunk()
+                .map(|operands| Command::Track(Track::from_operands(operands)))
+                .ok_or(CUT_SHORT),
+            [2, operands @ ..] => operands
+                .first_chunk()
+                .map(|operands| Command::Wall(Wall::from_operands(operands)))
+                .ok_or(CUT_SHORT),
+            [_, ..] => Err(UNKNOWN_COMMAND),
+            [] => Err(CUT_SHORT),
+        }
+    }
+
+    pub fn length(&self) -> usize {
+        match self {
+            Command::End => 1,
+            Command::Track(_) => Track::LENGTH,
+            Command::Wall(_) => Wall::LENGTH,
+        }
+    }
+
+    pub fn as_track(&self) -> Option<Track> {
+        match self {
+            Command::Track(track) => Some(*track),
+            _ => None,
+        }
+    }
+
+    fn append_to(&self, bytes: &mut Vec<u8>) {
+        match self {
+            Command::End => bytes.push(0),
+            Command::Track(track) => bytes.extend(track.to_bytes()),
+            Command::Wall(wall) => bytes.extend(wall.to_bytes()),
+        }
+    }
+}
+
+impl Records {
+    /// Takes the command in, or gives the first of 7, 4, 5, 6, 8, 9, 10, 11 that it breaks.
+    pub fn admit(&mut self, command: Command) -> Result<(), u8> {
+        match command {
+            Command::End => {}
+            Command::Track(track) => {
+                self.test_track(&track)?;
+                self.tracks.push(track);
+            }
+            Command::Wall(wall) => {
+                self.test_wall(&wall)?;
+                self.walls.push(wall);
+            }
+        }
+        Ok(())
+    }
+
+    fn test_track(&self, new: &Track) -> Result<(), u8> {
+        let start = new.start();
+        refuse_if(TOO_MANY, self.tracks.len() == MAX_RECORDS)?;
+        refuse_if(COORDINATE, new.x.max(new.y) > MAX_COORDINATE)?;
+        refuse_if(SPEED, !new.has_good_speed())?;
+        refuse_if(ID_USED, self.tracks.iter().any(|old| old.id == new.id))?;
+        refuse_if(START_USED, self.tracks.iter().any(|old| old.start() == start))?;
+        refuse_if(START_ON_WALL, self.walls.iter().any(|wall| wall.holds(start)))?;
+        refuse_if(FACING, self.tracks.iter().any(|old| old.faces(new)))
+    }
+
+    fn test_wall(&self, new: &Wall) -> Result<(), u8> {
+        let furthest = new.ax.max(new.ay).max(new.bx).max(new.by);
+        refuse_if(TOO_MANY, self.walls.len() == MAX_RECORDS)?;
+        refuse_if(COORDINATE, furthest > MAX_COORDINATE)?;
+        refuse_if(EQUAL_ENDS, new.a() == new.b())?;
+        refuse_if(ID_USED, self.walls.iter().any(|old| old.id == new.id))?;
+        refuse_if(START_ON_WALL, self.tracks.iter().any(|track| new.holds(track.start())))
+    }
+}
+
+fn refuse_if(number: u8, broken: bool) -> Result<(), u8> {
+    if broken {
+        Err(number)
+    } else {
+        Ok(())
+    }
+}
+
+/// Reads a sheet, or gives its refusal.
+pub fn read(bytes: &[u8]) -> Result<Records, Refusal> {
+    let mut records = Records::default();
+    let mut place = 0;
+    loop {
+        let refused = |number| Refusal { number, place };
+        let command = Command::parse(&bytes[place..]).map_err(refused)?;
+        records.admit(command).map_err(refused)?;
+        place += command.length();
+        if command == Command::End {
+            break;
+        }
+    }
+    if place < bytes.len() {
+        return Err(Refusal { number: AFTER_END, place });
+    }
+    Ok(records)
+}
+
+/// Handed-in records as commands, tracks before walls, without the final 00.
+pub fn commands<'a>(tracks: &'a [Track], walls: &'a [Wall]) -> impl Iterator<Item = Command> + 'a {
+    let tracks = tracks.iter().copied().map(Command::Track);
+    tracks.chain(walls.iter().copied().map(Command::Wall))
+}
+
+/// The commands' bytes, followed by 00.
+pub fn listing(commands: impl IntoIterator<Item = Command>) -> Vec<u8> {
+    let mut bytes = Vec::new();
+    for command in commands {
+        command.append_to(&mut bytes);
+    }
+    Command::End.append_to(&mut bytes);
+    bytes
+}
+
+/// Refuses handed-in records as the sheet that lists them, tracks before walls, would be.
+pub fn check(tracks: &[Track], walls: &[Wall]) -> Result<(), Refusal> {
+    let mut records = Records::default();
+    let mut place = 0;
+    for command in commands(tracks, walls) {
+        records.admit(command).map_err(|number| Refusal { number, place })?;
+        place += command.length();
+    }
+    Ok(())
+}
+
+/// The ordered form: tracks by rising id, then walls by rising id, then 00.
+pub fn ordered_form(tracks: &[Track], walls: &[Wall]) -> Vec<u8> {
+    let (mut tracks, mut walls) = (tracks.to_vec(), walls.to_vec());
+    tracks.sort_by_key(|track| track.id);
+    walls.sort_by_key(|wall| wall.id);
+    listing(commands(&tracks, &walls))
+}
+
+/// Writes the ordered form to the front of `out` and gives its length.
+pub fn write(tracks: &[Track], walls: &[Wall], out: &mut [u8]) -> Result<usize, Refusal> {
+    check(tracks, walls)?;
+    let bytes = ordered_form(tracks, walls);
+    let length = bytes.len();
+    let too_short = Refusal { number: OUTPUT_TOO_SHORT, place: length };
+    out.get_mut(..length).ok_or(too_short)?.copy_from_slice(&bytes);
+    Ok(length)
+}

@@ -1,0 +1,154 @@
+//! Cells against a second count: the cells of the points at and between all border crossings.
+
+use reference::cells::{cells_entered, cells_of, count, ids_in, listing, Cell, FIGURES};
+use reference::chosen::{self, document, track};
+use reference::fraction::Fraction;
+use reference::made_up;
+use reference::refusal::Refusal;
+use reference::rng::Rng;
+use reference::roll::{roll, Row};
+use reference::sheet::{self, read, Records, Track};
+use std::collections::BTreeSet;
+
+fn records(name: &str) -> Records {
+    read(&document::sheet(name)).expect("accepted")
+}
+
+fn cell_at(track: &Track, time: Fraction, side: u64) -> Cell {
+    let along = |start: u16, speed: i8| {
+        let place = Fraction::whole(start) + Fraction::whole(speed) * time;
+        place.over(Fraction::whole(side)).floor() as u64
+    };
+    Cell { column: along(track.x, track.vx), row: along(track.y, track.vy) }
+}
+
+/// Between two neighbours of these times the tip stays in one cell.
+fn crossing_times(track: &Track, end: Fraction, side: u64) -> Vec<Fraction> {
+    let mut times = vec![Fraction::ZERO, end];
+    for line in (0..=4096).step_by(side as usize) {
+        for (start, speed) in [(track.x, track.vx), (track.y, track.vy)] {
+            if speed != 0 {
+                times.push(Fraction::new(line - i128::from(start), speed));
+            }
+        }
+    }
+    times.retain(|time| Fraction::ZERO <= *time && *time <= end);
+    times.sort();
+    times
+}
+
+fn cells_by_crossings(track: &Track, end: Fraction, figure: u64) -> BTreeSet<Cell> {
+    let side = 4096 / figure;
+    let times = crossing_times(track, end, side);
+    let between = times.windows(2).map(|pair| (pair[0] + pair[1]) * Fraction::new(1, 2));
+    let all = times.iter().copied().chain(between);
+    all.map(|time| cell_at(track, time, side)).collect()
+}
+
+fn end_of(rows: &[Row], id: u16) -> Fraction {
+    rows.iter().find(|row| row.id == id).expect("a row for each track").time
+}
+
+/// Every trace's cells at every figure, and the totals.
+fn check_cells(records: &Records) {
+    let rows = roll(records);
+    for figure in FIGURES {
+        let mut total = 0;
+        for track in &records.tracks {
+            let end = end_of(&rows, track.id);
+            let cells = cells_of(track, end, figure);
+            let expected = cells_by_crossings(track, end, figure);
+            assert_eq!(cells, Vec::from_iter(expected), "{track:?}, figure {figure}");
+            assert!((1..2 * figure).contains(&(cells.len() as u64)));
+            assert!(cells.iter().all(|cell| cell.column.max(cell.row) < figure));
+            total += cells.len();
+        }
+        assert_eq!(count(records, &rows, figure), total);
+    }
+    assert_eq!(count(records, &rows, 1), records.tracks.len());
+}
+
+#[test]
+fn sheet_a_has_9_cells_at_8() {
+    assert_eq!(cells_entered(&records("A"), 8), Ok(9));
+    assert_eq!(cells_entered(&records("A"), 1), Ok(2));
+}
+
+#[test]
+fn sheet_k_has_no_cells() {
+    for figure in FIGURES {
+        assert_eq!(cells_entered(&records("K"), figure), Ok(0));
+    }
+}
+
+#[test]
+fn a_diagonal_has_a_cell_or_two_at_each_corner() {
+    let one = |command| read(&sheet::listing([command])).expect("accepted");
+    for figure in FIGURES {
+        let up = cells_entered(&one(track(1, 0, 0, 1, 1)), figure);
+        assert_eq!(up, Ok(figure as usize));
+        let down = cells_entered(&one(track(1, 0, 4095, 1, -1)), figure);
+        assert_eq!(down, Ok(2 * figure as usize - 1));
+    }
+}
+
+#[test]
+fn a_falling_tip_leaves_its_border_at_once() {
+    let falling = read(&sheet::listing([track(1, 512, 512, -1, 0)])).expect("accepted");
+    let rows = roll(&falling);
+    let cells = cells_of(&falling.tracks[0], rows[0].time, 8);
+    assert_eq!(cells, [Cell { column: 0, row: 1 }, Cell { column: 1, row: 1 }]);
+    let outward = read(&document::sheet("I")).expect("accepted");
+    assert_eq!(cells_entered(&outward, 32), Ok(1));
+}
+
+#[test]
+fn cells_of_chosen_sheets() {
+    for sheet in chosen::all() {
+        if let Ok(records) = read(&sheet) {
+            check_cells(&records);
+        }
+    }
+}
+
+#[test]
+fn cells_of_made_up_sheets() {
+    let mut rng = Rng::new(21);
+    for ground in made_up::GROUNDS {
+        for _ in 0..150 {
+            let draws = 2 + rng.below(30);
+            let commands = ground.accepted(&mut rng, draws);
+            check_cells(&read(&sheet::listing(commands)).expect("accepted"));
+        }
+    }
+}
+
+#[test]
+fn listings_hold_each_trace_as_often_as_it_has_cells() {
+    let mut rng = Rng::new(22);
+    for _ in 0..40 {
+        let records = read(&made_up::accepted(&mut rng)).expect("accepted");
+        let rows = roll(&records);
+        for figure in FIGURES {
+            let cells =
+                (0..figure).flat_map(|column| (0..figure).map(move |row| Cell { column, row }));
+            let listed: usize = cells.map(|cell| ids_in(&records, &rows, figure, cell).len()).sum();
+            assert_eq!(listed, count(&records, &rows, figure));
+        }
+    }
+}
+
+#[test]
+fn figures_and_cells_that_are_refused() {
+    let sheet = records("A");
+    for figure in [0, 3, 5, 7, 9, 24, 31, 33, 64, 256] {
+        let refused = Refusal { number: 13, place: figure as usize };
+        assert_eq!(cells_entered(&sheet, figure), Err(refused));
+        assert_eq!(listing(&sheet, figure, Cell { column: 999, row: 0 }), Err(refused));
+    }
+    let refused = Err(Refusal { number: 14, place: 0 });
+    assert_eq!(listing(&sheet, 8, Cell { column: 8, row: 0 }), refused);
+    assert_eq!(listing(&sheet, 8, Cell { column: 0, row: 8 }), refused);
+    let first = listing(&sheet, 8, Cell { column: 0, row: 0 });
+    assert_eq!(first, Ok(BTreeSet::from([1, 2])));
+}

@@ -1,0 +1,95 @@
+//! The rolls that document 01 gives for its sheets.
+
+use reference::chosen::document;
+use reference::roll::{roll, roll_bytes, Row};
+use reference::sheet::{read, Records};
+
+fn records(name: &str) -> Records {
+    read(&document::sheet(name)).expect("accepted")
+}
+
+/// Rows as program `roll` prints them.
+fn printed(name: &str) -> Vec<String> {
+    roll(&records(name)).iter().map(Row::to_string).collect()
+}
+
+#[test]
+fn sheet_a() {
+    assert_eq!(printed("A"), ["1 1 2 10/1 12800 6400", "2 4 0 809/2 12800 262080"]);
+}
+
+#[test]
+fn sheet_a_in_bytes() {
+    let bytes = roll_bytes(&roll(&records("A")));
+    let first = [
+        1, 0, 1, 2, 0, 10, 0, 0, 0, 0, 0, 0, 0, 1, 0, 0, 0, 0, 0, 0, 0, 0x00, 0x32, 0, 0, 0x00,
+        0x19, 0, 0,
+    ];
+    assert_eq!(bytes.len(), 2 * 29);
+    assert_eq!(bytes[..29], first);
+}
+
+#[test]
+fn sheet_b() {
+    assert_eq!(printed("B"), ["1 2 2 10/1 12800 6400", "2 2 1 10/1 12800 6400"]);
+}
+
+#[test]
+fn sheet_c() {
+    let rows = printed("C");
+    assert_eq!(rows[0], "2 1 1 25/2 12800 6400");
+    assert!(rows[1].starts_with("1 4 0 799/2 "));
+}
+
+#[test]
+fn sheet_d() {
+    let rows = printed("D");
+    assert_eq!(rows.len(), 64);
+    for (index, row) in rows.iter().enumerate() {
+        let (id, partner) = (index + 1, if index == 0 { 2 } else { 1 });
+        assert_eq!(*row, format!("{id} 2 {partner} 10/1 {} {}", 320 * 64, 630 * 64));
+    }
+}
+
+#[test]
+fn sheet_e() {
+    let rows = [
+        "1 1 2 10/1 12800 6400",
+        "2 1 3 11/1 12800 12800",
+        "3 1 4 11/1 6400 12800",
+        "4 1 1 11/1 6400 6400",
+    ];
+    assert_eq!(printed("E"), rows);
+}
+
+#[test]
+fn sheet_f() {
+    assert_eq!(printed("F"), ["2 3 1 5/1 19200 3200", "1 4 0 799/2 262080 6400"]);
+}
+
+#[test]
+fn sheet_g() {
+    assert_eq!(printed("G")[0], "1 1 2 10/1 12800 6400");
+}
+
+#[test]
+fn sheet_h() {
+    assert_eq!(printed("H"), ["1 3 1 10/1 12800 6400"]);
+    assert_eq!(printed("H passed"), ["1 4 0 799/2 262080 6400"]);
+}
+
+#[test]
+fn sheet_i() {
+    assert_eq!(printed("I"), ["1 4 0 0/1 262080 320"]);
+    assert_eq!(printed("I up"), ["1 4 0 4090/1 262080 262080"]);
+}
+
+#[test]
+fn sheet_j() {
+    assert_eq!(printed("J"), ["1 3 1 2/3 42 42"]);
+}
+
+#[test]
+fn sheet_k() {
+    assert!(printed("K").is_empty());
+}

@@ -1,0 +1,220 @@
+//! The rolls held against the rule of ending itself, sentence by sentence, with the other rows'
+//! times put in for the other tips' ends. Nothing here goes by the order of events.
+
+use reference::chosen;
+use reference::fraction::Fraction;
+use reference::made_up;
+use reference::plane::Vector;
+use reference::rng::Rng;
+use reference::roll::{roll, roll_bytes, Ending, Row};
+use reference::sheet::{commands, listing, read, Records, Track};
+use std::collections::BTreeMap;
+
+type Ends = BTreeMap<u16, Fraction>;
+
+/// All times t with from ≤ t ≤ to; `to` may be missing.
+#[derive(Clone, Copy)]
+struct Span {
+    from: Fraction,
+    to: Option<Fraction>,
+}
+
+impl Span {
+    /// Keeps the times at which constant + slope × t ≥ 0.
+    fn keep(self, constant: Fraction, slope: Fraction) -> Option<Span> {
+        let mut kept = self;
+        if slope == Fraction::ZERO {
+            return (constant >= Fraction::ZERO).then_some(kept);
+        }
+        let zero = (-constant).over(slope);
+        if slope > Fraction::ZERO {
+            kept.from = kept.from.max(zero);
+        } else {
+            kept.to = Some(kept.to.map_or(zero, |to| to.min(zero)));
+        }
+        kept.to.is_none_or(|to| kept.from <= to).then_some(kept)
+    }
+}
+
+const ALWAYS: Span = Span { from: Fraction::ZERO, to: None };
+
+fn whole(number: i64) -> Fraction {
+    Fraction::whole(number)
+}
+
+fn at(start: Vector, speed: Vector, time: Fraction) -> (Fraction, Fraction) {
+    (whole(start.x) + whole(speed.x) * time, whole(start.y) + whole(speed.y) * time)
+}
+
+/// A moving point. A wall is one too, going from end to end by time 1.
+#[derive(Clone, Copy)]
+struct Mover {
+    start: Vector,
+    speed: Vector,
+    end: Fraction,
+}
+
+/// The earliest t ≥ 0 at which the tip is where the mover is at some s from 0 to its end, with
+/// s ≤ t if the mover has to be there first.
+fn earliest(tip: &Track, mover: Mover, first: bool) -> Option<Fraction> {
+    let (p, v) = (tip.start(), tip.speed());
+    let Mover { start: q, speed: w, end } = mover;
+    // s as constant + slope × t, from a coordinate in which the mover moves.
+    let (constant, slope) = if w.x != 0 {
+        (Fraction::new(p.x - q.x, w.x), Fraction::new(v.x, w.x))
+    } else {
+        (Fraction::new(p.y - q.y, w.y), Fraction::new(v.y, w.y))
+    };
+    let mut span = ALWAYS.keep(constant, slope)?;
+    span = span.keep(end - constant, -slope)?;
+    if first {
+        span = span.keep(-constant, Fraction::ONE - slope)?;
+    }
+    // Both coordinates agree: two inequalities each.
+    for (p, v, q, w) in [(p.x, v.x, q.x, w.x), (p.y, v.y, q.y, w.y)] {
+        let constant = whole(p - q) - whole(w) * constant;
+        let slope = whole(v) - whole(w) * slope;
+        span = span.keep(constant, slope)?.keep(-constant, -slope)?;
+    }
+    Some(span.from)
+}
+
+/// When the mover is at the tip's place of that time.
+fn mover_there(tip: &Track, time: Fraction, mover: Mover) -> Option<Fraction> {
+    let (x, y) = at(tip.start(), tip.speed(), time);
+    let Mover { start: q, speed: w, end } = mover;
+    let s = if w.x != 0 {
+        (x - whole(q.x)).over(whole(w.x))
+    } else {
+        (y - whole(q.y)).over(whole(w.y))
+    };
+    let there = at(q, w, s) == (x, y) && s >= Fraction::ZERO && s <= end;
+    there.then_some(s)
+}
+
+fn last_inside(tip: &Track) -> Fraction {
+    let mut span = ALWAYS;
+    for (start, speed) in [(tip.x, tip.vx), (tip.y, tip.vy)] {
+        let (start, speed) = (Fraction::whole(start), Fraction::whole(speed));
+        let inside = span.keep(start, speed);
+        let inside = inside.and_then(|span| span.keep(whole(4095) - start, -speed));
+        span = inside.expect("a start inside the sheet");
+    }
+    span.to.expect("a tip that moves")
+}
+
+fn other_tracks(records: &Records, tip: &Track, ends: &Ends) -> Vec<(u16, Mover)> {
+    let others = records.tracks.iter().filter(|other| other.id != tip.id);
+    let mover =
+        |other: &Track| Mover { start: other.start(), speed: other.speed(), end: ends[&other.id] };
+    let mut movers: Vec<_> = others.map(|other| (other.id, mover(other))).collect();
+    movers.sort_by_key(|(id, _)| *id);
+    movers
+}
+
+fn walls(records: &Records) -> Vec<(u16, Mover)> {
+    let mover = |a: Vector, b: Vector| Mover { start: a, speed: b - a, end: Fraction::ONE };
+    let mut movers: Vec<_> =
+        records.walls.iter().map(|wall| (wall.id, mover(wall.a(), wall.b()))).collect();
+    movers.sort_by_key(|(id, _)| *id);
+    movers
+}
+
+/// The time and the ending that the rule gives the tip while the others end as in `ends`.
+fn by_the_rule(records: &Records, tip: &Track, ends: &Ends) -> (Fraction, Ending) {
+    let (tracks, walls) = (other_tracks(records, tip, ends), walls(records));
+    let on_track = tracks.iter().filter_map(|(_, mover)| earliest(tip, *mover, true));
+    let on_wall = walls.iter().filter_map(|(_, mover)| earliest(tip, *mover, false));
+    let time = on_track.chain(on_wall).fold(last_inside(tip), Fraction::min);
+
+    let blocks = |(id, mover): &(u16, Mover)| {
+        let s = mover_there(tip, time, *mover).filter(|s| *s <= time)?;
+        Some(if s < time { Ending::Track(*id) } else { Ending::Meeting(*id) })
+    };
+    let stops =
+        |(id, mover): &(u16, Mover)| mover_there(tip, time, *mover).map(|_| Ending::Wall(*id));
+    let track = tracks.iter().find_map(blocks);
+    (time, track.or_else(|| walls.iter().find_map(stops)).unwrap_or(Ending::Edge))
+}
+
+fn check_row(records: &Records, row: &Row, ends: &Ends) {
+    let tip = records.tracks.iter().find(|track| track.id == row.id).expect("a track's row");
+    let (time, ending) = by_the_rule(records, tip, ends);
+    assert_eq!((row.time, row.ending), (time, ending), "id {} of {records:?}", row.id);
+    let (x, y) = at(tip.start(), tip.speed(), time);
+    for (rounded, exact) in [(row.x, x), (row.y, y)] {
+        let exact = exact * whole(64);
+        let rounded = Fraction::whole(rounded);
+        assert!(rounded <= exact && exact < rounded + Fraction::ONE);
+    }
+    let (numerator, denominator) = row.time_in_lowest_terms();
+    assert_eq!(Fraction::new(numerator, denominator), time);
+    assert!(denominator > 0);
+    let divides = |d: u64| numerator.is_multiple_of(d) && denominator.is_multiple_of(d);
+    assert!(!(2..=denominator.isqrt()).any(divides) && (denominator == 1 || !divides(denominator)));
+}
+
+/// Every row is the rule's, there is one for each track, and they are in the roll's order.
+fn check_roll(records: &Records) -> Vec<Row> {
+    let rows = roll(records);
+    let ends: Ends = rows.iter().map(|row| (row.id, row.time)).collect();
+    assert_eq!(rows.len(), records.tracks.len());
+    assert_eq!(ends.len(), rows.len());
+    assert!(rows.is_sorted_by_key(|row| (row.time, row.id)));
+    for row in &rows {
+        check_row(records, row, &ends);
+    }
+    rows
+}
+
+#[test]
+fn rolls_of_chosen_sheets_are_the_rule_s() {
+    let sheets = chosen::all();
+    let rolls = sheets.iter().filter_map(|sheet| read(sheet).ok()).map(|sheet| check_roll(&sheet));
+    assert!(rolls.count() > 900);
+}
+
+#[test]
+fn chosen_endings_are_accepted() {
+    for sheet in chosen::endings::sheets() {
+        assert_eq!(read(&sheet).err(), None, "{sheet:?}");
+    }
+}
+
+#[test]
+fn rolls_of_made_up_sheets_are_the_rule_s() {
+    let mut rng = Rng::new(11);
+    let mut kinds = [0; 5];
+    for ground in made_up::GROUNDS {
+        for _ in 0..700 {
+            let draws = 2 + rng.below(40);
+            let commands = ground.accepted(&mut rng, draws);
+            let records = read(&listing(commands)).expect("accepted");
+            for row in check_roll(&records) {
+                kinds[usize::from(row.ending.kind())] += 1;
+            }
+        }
+    }
+    assert!(kinds[1..].iter().all(|count| *count > 500), "{kinds:?}");
+}
+
+#[test]
+fn rolls_of_large_sheets_are_the_rule_s() {
+    let mut rng = Rng::new(12);
+    for _ in 0..6 {
+        let records = read(&made_up::large(&mut rng)).expect("accepted");
+        check_roll(&records);
+    }
+}
+
+#[test]
+fn the_order_of_commands_does_not_change_the_roll() {
+    let mut rng = Rng::new(13);
+    for sheet in made_up::all(5) {
+        let Ok(records) = read(&sheet) else { continue };
+        let mut shuffled: Vec<_> = commands(&records.tracks, &records.walls).collect();
+        rng.shuffle(&mut shuffled);
+        let again = read(&listing(shuffled)).expect("accepted in another order");
+        assert_eq!(roll_bytes(&roll(&again)), roll_bytes(&roll(&records)));
+    }
+}

@@ -1,0 +1,247 @@
+//! The lines of document 01's refusal table, each with examples of its own.
+
+use reference::chosen::{self, together, track, tracks, wall, walls};
+use reference::refusal::Refusal;
+use reference::sheet::{check, listing, read, write, Command, Records, Track, Wall};
+
+fn refusal(bytes: &[u8]) -> Option<(u8, usize)> {
+    read(bytes).err().map(|refusal| (refusal.number, refusal.place))
+}
+
+fn refusal_of(commands: &[Command]) -> Option<(u8, usize)> {
+    refusal(&listing(commands.iter().copied()))
+}
+
+fn bytes_of_one_track() -> Vec<u8> {
+    listing([track(1, 2, 3, 4, 5)])
+}
+
+#[test]
+fn command_byte_above_two_is_1() {
+    for byte in 3..=255 {
+        assert_eq!(refusal(&[byte]), Some((1, 0)));
+        let mut bytes = bytes_of_one_track();
+        bytes.insert(9, byte);
+        assert_eq!(refusal(&bytes), Some((1, 9)));
+    }
+}
+
+#[test]
+fn operands_cut_short_are_2_at_the_command() {
+    let whole = listing([track(1, 2, 3, 4, 5), wall(1, 6, 7, 8, 9)]);
+    assert_eq!(whole.len(), 21);
+    for length in 0..whole.len() {
+        let place = match length {
+            0..=8 => 0,
+            9..=19 => 9,
+            _ => 20,
+        };
+        assert_eq!(refusal(&whole[..length]), Some((2, place)), "{length} bytes");
+    }
+    assert_eq!(refusal(&whole), None);
+}
+
+#[test]
+fn no_end_is_2_at_the_input_length() {
+    assert_eq!(refusal(&[]), Some((2, 0)));
+    assert_eq!(refusal(&bytes_of_one_track()[..9]), Some((2, 9)));
+}
+
+#[test]
+fn bytes_after_the_end_are_3() {
+    assert_eq!(refusal(&[0, 0]), Some((3, 1)));
+    assert_eq!(refusal(&[0, 255, 255]), Some((3, 1)));
+    let mut bytes = bytes_of_one_track();
+    bytes.extend([1, 1]);
+    assert_eq!(refusal(&bytes), Some((3, 10)));
+}
+
+#[test]
+fn coordinate_above_4095_is_4() {
+    let before = track(1, 4095, 4095, 1, 1);
+    let wall_before = wall(1, 4095, 0, 0, 4095);
+    assert_eq!(refusal_of(&[before, wall_before]), None);
+    for beyond in [4096, 4097, 8191, 32768, 65535] {
+        assert_eq!(refusal_of(&[before, track(2, beyond, 0, 1, 1)]), Some((4, 9)));
+        assert_eq!(refusal_of(&[before, track(2, 0, beyond, 1, 1)]), Some((4, 9)));
+        assert_eq!(refusal_of(&[wall_before, wall(2, beyond, 1, 2, 3)]), Some((4, 11)));
+        assert_eq!(refusal_of(&[wall_before, wall(2, 1, beyond, 2, 3)]), Some((4, 11)));
+        assert_eq!(refusal_of(&[wall_before, wall(2, 1, 2, beyond, 3)]), Some((4, 11)));
+        assert_eq!(refusal_of(&[wall_before, wall(2, 1, 2, 3, beyond)]), Some((4, 11)));
+    }
+}
+
+#[test]
+fn speed_outside_63_or_zero_is_5() {
+    for speed in -128..=127 {
+        let expected = if (-63..=63).contains(&speed) { None } else { Some((5, 0)) };
+        assert_eq!(refusal_of(&[track(1, 2, 3, speed, 1)]), expected);
+        assert_eq!(refusal_of(&[track(1, 2, 3, -1, speed)]), expected);
+    }
+    assert_eq!(refusal_of(&[track(1, 2, 3, 0, 0)]), Some((5, 0)));
+    assert_eq!(refusal_of(&[track(1, 2, 3, 0, -1)]), None);
+}
+
+#[test]
+fn wall_with_equal_ends_is_6() {
+    assert_eq!(refusal_of(&[wall(1, 7, 8, 7, 8)]), Some((6, 0)));
+    assert_eq!(refusal_of(&[wall(1, 7, 8, 8, 7)]), None);
+    assert_eq!(refusal_of(&[wall(1, 7, 8, 7, 9)]), None);
+}
+
+#[test]
+fn the_257th_of_its_kind_is_7() {
+    assert_eq!(refusal_of(&tracks(256)), None);
+    assert_eq!(refusal_of(&walls(256)), None);
+    assert_eq!(refusal_of(&[tracks(256), walls(256)].concat()), None);
+    assert_eq!(refusal_of(&tracks(257)), Some((7, 256 * 9)));
+    assert_eq!(refusal_of(&walls(257)), Some((7, 256 * 11)));
+    let both = [tracks(256), walls(257)].concat();
+    assert_eq!(refusal_of(&both), Some((7, 256 * 20)));
+}
+
+#[test]
+fn id_used_by_its_kind_is_8() {
+    for id in [0, 7, 65535] {
+        let (a_track, a_wall) = (track(id, 2, 3, 4, 5), wall(id, 20, 30, 40, 50));
+        assert_eq!(refusal_of(&[a_track, a_wall]), None);
+        assert_eq!(refusal_of(&[a_track, a_wall, track(id, 9, 9, 1, 1)]), Some((8, 20)));
+        assert_eq!(refusal_of(&[a_track, a_wall, wall(id, 9, 9, 8, 8)]), Some((8, 20)));
+    }
+}
+
+#[test]
+fn start_already_used_is_9() {
+    assert_eq!(refusal_of(&[track(1, 2, 3, 4, 5), track(2, 2, 3, -4, 5)]), Some((9, 9)));
+    assert_eq!(refusal_of(&[track(1, 2, 3, 4, 5), track(2, 3, 2, 4, 5)]), None);
+}
+
+#[test]
+fn start_on_a_wall_is_10_at_the_later_command() {
+    let slanted = wall(1, 10, 10, 18, 14);
+    for (x, y, on_wall) in [
+        (10, 10, true),
+        (18, 14, true),
+        (12, 11, true),
+        (8, 9, false),
+        (20, 15, false),
+        (12, 12, false),
+        (13, 11, false),
+    ] {
+        let start = track(1, x, y, 1, 0);
+        let expected = |place| if on_wall { Some((10, place)) } else { None };
+        assert_eq!(refusal_of(&[slanted, start]), expected(11), "wall, then ({x}, {y})");
+        assert_eq!(refusal_of(&[start, slanted]), expected(9), "({x}, {y}), then wall");
+    }
+}
+
+#[test]
+fn facing_tips_are_11() {
+    let facing = [
+        [track(1, 0, 0, 1, 0), track(2, 10, 0, -1, 0)],
+        [track(1, 5, 90, 0, -7), track(2, 5, 3, 0, 63)],
+        [track(1, 10, 10, 2, 2), track(2, 13, 13, -5, -5)],
+        [track(1, 10, 10, -4, 6), track(2, 6, 16, 2, -3)],
+    ];
+    for pair in facing {
+        assert_eq!(refusal_of(&pair), Some((11, 9)), "{pair:?}");
+    }
+    let apart = [
+        [track(1, 0, 0, -1, 0), track(2, 10, 0, 1, 0)],
+        [track(1, 0, 0, 1, 0), track(2, 10, 0, 1, 0)],
+        [track(1, 0, 0, 1, 0), track(2, 10, 1, -1, 0)],
+        [track(1, 0, 0, 1, 0), track(2, 10, 0, -1, 1)],
+        [track(1, 10, 10, 2, 2), track(2, 13, 12, -5, -5)],
+    ];
+    for pair in apart {
+        assert_eq!(refusal_of(&pair), None, "{pair:?}");
+    }
+}
+
+#[test]
+fn the_first_rule_of_the_order_is_returned() {
+    for (rules, bytes) in together::at_one_command() {
+        let (number, place) = refusal(&bytes).expect("a faulty command");
+        assert_eq!(number, rules[0]);
+        assert!([bytes.len() - 10, bytes.len() - 12].contains(&place));
+    }
+    for (_, bytes) in together::one_too_many() {
+        assert_eq!(refusal(&bytes).map(|(number, _)| number), Some(7));
+    }
+    for bytes in together::cut_short() {
+        assert_eq!(refusal(&bytes).map(|(number, _)| number), Some(2));
+    }
+}
+
+#[test]
+fn the_first_command_is_returned_whatever_its_number() {
+    let facing = [track(1, 0, 0, 1, 0), track(2, 10, 0, -1, 0)];
+    let then = |next| refusal_of(&[facing[0], facing[1], next]);
+    assert_eq!(then(track(3, 4096, 0, 1, 0)), Some((11, 9)));
+    assert_eq!(then(wall(1, 5, 5, 5, 5)), Some((11, 9)));
+    let mut bytes = listing(facing);
+    bytes.push(3);
+    assert_eq!(refusal(&bytes), Some((11, 9)));
+}
+
+/// The records of a sheet's commands, whether or not a sheet may hold them.
+fn handed_in(commands: &[Command]) -> Records {
+    let mut records = Records::default();
+    for command in commands {
+        match *command {
+            Command::Track(track) => records.tracks.push(track),
+            Command::Wall(wall) => records.walls.push(wall),
+            Command::End => {}
+        }
+    }
+    records
+}
+
+#[test]
+fn handed_in_records_are_refused_as_the_sheet_that_lists_them() {
+    let interleaved = [
+        wall(1, 30, 30, 30, 50),
+        track(1, 30, 40, 1, 0),
+        track(2, 50, 40, -1, 0),
+        wall(1, 7, 7, 7, 7),
+    ];
+    let tracks_first = [interleaved[1], interleaved[2], interleaved[0], interleaved[3]];
+    let records = handed_in(&interleaved);
+    let expected = Err(Refusal { number: 11, place: 9 });
+    assert_eq!(check(&records.tracks, &records.walls), expected);
+    assert_eq!(read(&listing(tracks_first)).map(|_| ()), expected);
+    assert_eq!(refusal_of(&interleaved), Some((10, 11)));
+}
+
+#[test]
+fn handed_in_counts_above_256_are_7_whatever_they_hold() {
+    let nonsense = Track { id: 0, x: 5000, y: 0, vx: 0, vy: 0 };
+    let mut records = handed_in(&[tracks(256), walls(256)].concat());
+    assert_eq!(check(&records.tracks, &records.walls), Ok(()));
+    records.walls.extend([Wall { id: 0, ax: 0, ay: 0, bx: 0, by: 0 }; 300]);
+    let expected = Err(Refusal { number: 7, place: 256 * 20 });
+    assert_eq!(check(&records.tracks, &records.walls), expected);
+    records.tracks.extend([nonsense; 300]);
+    let expected = Err(Refusal { number: 7, place: 256 * 9 });
+    assert_eq!(check(&records.tracks, &records.walls), expected);
+}
+
+#[test]
+fn output_too_short_is_12_and_nothing_is_written() {
+    let records = read(&chosen::document::sheet("F")).expect("accepted");
+    let mut out = [0xEE; 40];
+    for length in 0..30 {
+        let refused = write(&records.tracks, &records.walls, &mut out[..length]);
+        assert_eq!(refused, Err(Refusal { number: 12, place: 30 }));
+        assert_eq!(out, [0xEE; 40]);
+    }
+    assert_eq!(write(&records.tracks, &records.walls, &mut out), Ok(30));
+    assert_eq!(out[30..], [0xEE; 10]);
+}
+
+#[test]
+fn the_writer_refuses_the_sheet_before_the_output() {
+    let records = handed_in(&[track(1, 2, 3, 0, 0)]);
+    let refused = write(&records.tracks, &records.walls, &mut []);
+    assert_eq!(refused, Err(Refusal { number: 5, place: 0 }));
+}
