@@ -38,33 +38,19 @@ pub data Stands (s : List ℕ) (at : ℕ) : Item → Type 0 where
   unknown : Stands s at Unknown
 
 module _ (s : List ℕ) (at : ℕ) where
-  whole-track : (b : Bool) → leb (at + 9) (length s) ≡ b → getD s at 0 ≡ 1 → Stands s at (cond b (Add (AddTrack (trackAt s at))) Cut)
-  whole-track true h e = a-track (leb-true _ _ h) e
-  whole-track false h e = nothing
-
-  whole-wall : (b : Bool) → leb (at + 11) (length s) ≡ b → getD s at 0 ≡ 2 → Stands s at (cond b (Add (AddWall (wallAt s at))) Cut)
-  whole-wall true h e = a-wall (leb-true _ _ h) e
-  whole-wall false h e = nothing
+  either : (b : Bool) {x y : Item} → (b ≡ true → Stands s at x) → (b ≡ false → Stands s at y) → Stands s at (cond b x y)
+  either true f g = f refl
+  either false f g = g refl
 
   pub stands : Stands s at (itemAt s at)
   unfolding itemAt
-  stands = first (leb (length s) at) refl
-    where
-      third : (b : Bool) → eqb (getD s at 0) 2 ≡ b → Stands s at (cond b (cond (leb (at + 11) (length s)) (Add (AddWall (wallAt s at))) Cut) Unknown)
-      third true h = whole-wall (leb (at + 11) (length s)) refl (eqb-true _ _ h)
-      third false h = unknown
-
-      second : (b : Bool) → eqb (getD s at 0) 1 ≡ b → Stands s at (cond b (cond (leb (at + 9) (length s)) (Add (AddTrack (trackAt s at))) Cut) (cond (eqb (getD s at 0) 2) (cond (leb (at + 11) (length s)) (Add (AddWall (wallAt s at))) Cut) Unknown))
-      second true h = whole-track (leb (at + 9) (length s)) refl (eqb-true _ _ h)
-      second false h = third (eqb (getD s at 0) 2) refl
-
-      zeroth : (b : Bool) → eqb (getD s at 0) 0 ≡ b → at < length s → Stands s at (cond b End (cond (eqb (getD s at 0) 1) (cond (leb (at + 9) (length s)) (Add (AddTrack (trackAt s at))) Cut) (cond (eqb (getD s at 0) 2) (cond (leb (at + 11) (length s)) (Add (AddWall (wallAt s at))) Cut) Unknown)))
-      zeroth true h l = the-end l (eqb-true _ _ h)
-      zeroth false h l = second (eqb (getD s at 0) 1) refl
-
-      first : (b : Bool) → leb (length s) at ≡ b → Stands s at (cond b Cut (cond (eqb (getD s at 0) 0) End (cond (eqb (getD s at 0) 1) (cond (leb (at + 9) (length s)) (Add (AddTrack (trackAt s at))) Cut) (cond (eqb (getD s at 0) 2) (cond (leb (at + 11) (length s)) (Add (AddWall (wallAt s at))) Cut) Unknown))))
-      first true h = nothing
-      first false h = zeroth (eqb (getD s at 0) 0) refl (leb-false _ _ h)
+  stands =
+      let first = getD s at 0 in
+      either (leb (length s) at) (λ h. nothing)
+      (λ h. either (eqb first 0) (λ e. the-end (leb-false _ _ h) (eqb-true _ _ e))
+      (λ n. either (eqb first 1) (λ e. either (leb (at + 9) (length s)) (λ l. a-track (leb-true _ _ l) (eqb-true _ _ e)) (λ l. nothing))
+      (λ m. either (eqb first 2) (λ e. either (leb (at + 11) (length s)) (λ l. a-wall (leb-true _ _ l) (eqb-true _ _ e)) (λ l. nothing))
+      (λ k. unknown))))
 
 -- ---- the bytes of a record
 
