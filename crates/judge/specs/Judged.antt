@@ -1,0 +1,23 @@
+-- What the lines 4 to 6 and 8 to 11 of the table (document 01, "Returned on refusal") say of one command, and of one with another before it.
+use mathlib.Core.Bool.{Bool, true, false, cond}
+use mathlib.Core.List.{List, [], _∷_}
+use Prim.Native.Nat.{ℕ}
+use lib.Dec.{ltb}
+use Rattle.sheet.specs.declared.Command.{Command}
+use Rattle.sheet.specs.Table.{offSheet, wrongSpeed, equalEnds, sameId, startUsed, startOnWall, facingTips}
+
+-- 4, 5 or 6, the first that the command breaks by itself; 0 for none
+unfoldable pub aloneOf : Command → ℕ
+aloneOf c = cond (offSheet c) 4 (cond (wrongSpeed c) 5 (cond (equalEnds c) 6 0))
+
+-- the first of 8 to 11 that c breaks with d before it; 12, which is above them all, for none
+unfoldable pub clashOf : Command → Command → ℕ
+clashOf c d = cond (sameId c d) 8 (cond (startUsed c d) 9 (cond (startOnWall c d) 10 (cond (facingTips c d) 11 12)))
+
+abbrev pub lesser : ℕ → ℕ → ℕ
+lesser a b = cond (ltb b a) b a
+
+-- the least clash with the commands before
+unfoldable pub worstOf : Command → List Command → ℕ
+worstOf c [] = 12
+worstOf c (d ∷ l) = lesser (clashOf c d) (worstOf c l)

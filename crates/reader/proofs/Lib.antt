@@ -1,0 +1,5 @@
+pub mod Items
+pub mod Turns
+pub mod Walking
+pub mod Scanning
+pub mod Loading

@@ -1,0 +1,30 @@
+-- The commands between two places of a sheet's bytes, and how many of each kind stand before a place.
+use mathlib.Core.Path.{_≡_}
+use mathlib.Core.List.{List, [], _∷_}
+use Prim.Native.Nat.{ℕ, _+_}
+use lib.ListN.{length}
+use Rattle.sheet.specs.declared.Command.{Command}
+use Rattle.sheet.specs.declared.Command.the-variants.{AddTrack, AddWall}
+use Rattle.sheet.specs.declared.Item.the-variants.{Add}
+use Rattle.sheet.specs.Format.{itemAt, width}
+use Rattle.sheet.specs.Listing.{tracksOf, wallsOf}
+
+-- a place at which a whole command stands
+abbrev pub WholeAt : List ℕ → ℕ → Type 0
+WholeAt s at = (c : Command) × (itemAt s at ≡ Add c)
+
+-- from place p up to place q these commands stand, one behind the other
+abbrev pub Walk : List ℕ → ℕ → ℕ → List Command → Type 0
+Walk s p q [] = p ≡ q
+Walk s p q (c ∷ l) = (itemAt s p ≡ Add c) × Walk s (p + width c) q l
+
+-- the commands before a place, with the number of each kind
+pub record Before (s : List ℕ) (at tracks walls : ℕ) (before : List Command) : Type 0 where
+  pub walk : Walk s 0 at before
+  pub tracks-are : tracks ≡ length (tracksOf before)
+  pub walls-are : walls ≡ length (wallsOf before)
+
+-- of a number for each kind, that of a command's
+abbrev pub ofKind : Command → ℕ → ℕ → ℕ
+ofKind (AddTrack a) tracks walls = tracks
+ofKind (AddWall w) tracks walls = walls
