@@ -2,16 +2,15 @@
 use Prim.Native.Nat.{ℕ, _≤_, _<_, _+_}
 use mathlib.Core.Path.{_≡_, refl, subst}
 use mathlib.Core.List.{List}
-use mathlib.Core.Bool.{Bool, true, false, cond}
 use native.Mathlib.Omega.{arith}
-use borrow.Author.Tests.{le-leb, lt-leb, ne-eqb, leb-true, leb-false, eqb-true}
-use lib.Dec.{leb, eqb}
+use borrow.Author.Tests.{le-leb, lt-leb, ne-eqb}
 use lib.ListN.{length, getD}
 use Rattle.sheet.specs.declared.Command.{Command}
 use Rattle.sheet.specs.declared.Command.the-variants.{AddTrack, AddWall}
 use Rattle.sheet.specs.declared.Item.{Item}
 use Rattle.sheet.specs.declared.Item.the-variants.{Unknown, Cut, End, Add}
 use Rattle.sheet.specs.Format.{itemAt, trackAt, wallAt, width}
+use Rattle.sheet.proofs.Decoded.{Stands, nothing, the-end, a-track, a-wall, unknown, stands}
 use Rattle.reader.specs.Walk.{WholeAt}
 
 module _ (s : List ℕ) (at : ℕ) where
@@ -44,51 +43,35 @@ module _ (s : List ℕ) (at : ℕ) where
   unfolding itemAt
   is-wall e g = let h : at < length s = omega arith in simp (lt-leb _ _ h, e, le-leb _ _ g)
 
--- the bytes of a whole command
-pub data Bytes (s : List ℕ) (at : ℕ) (c : Command) : Type 0 where
-  track : getD s at 0 ≡ 1 → at + 9 ≤ length s → c ≡ AddTrack (trackAt s at) → Bytes s at c
-  wall : getD s at 0 ≡ 2 → at + 11 ≤ length s → c ≡ AddWall (wallAt s at) → Bytes s at c
+-- which of the two a whole command is
+pub data Whole (s : List ℕ) (at : ℕ) (c : Command) : Type 0 where
+  track : getD s at 0 ≡ 1 → at + 9 ≤ length s → c ≡ AddTrack (trackAt s at) → Whole s at c
+  wall : getD s at 0 ≡ 2 → at + 11 ≤ length s → c ≡ AddWall (wallAt s at) → Whole s at c
 
 -- what an item says of the bytes at its place
 abbrev Shows : List ℕ → ℕ → Item → Type 0
 Shows s at Unknown = Unit {0}
 Shows s at Cut = Unit {0}
 Shows s at End = (at < length s) × (getD s at 0 ≡ 0)
-Shows s at (Add c) = Bytes s at c
+Shows s at (Add c) = Whole s at c
 
-shows : (s : List ℕ) (at : ℕ) → Shows s at (itemAt s at)
-unfolding itemAt
-shows s at =
-    go (leb (length s) at) (eqb (getD s at 0) 0) (eqb (getD s at 0) 1) (eqb (getD s at 0) 2) (leb (at + 9) (length s)) (leb (at + 11) (length s))
-    refl refl refl refl refl refl
-  where
-    go :
-        (none zero one two nine eleven : Bool) →
-        leb (length s) at ≡ none → eqb (getD s at 0) 0 ≡ zero → eqb (getD s at 0) 1 ≡ one → eqb (getD s at 0) 2 ≡ two →
-        leb (at + 9) (length s) ≡ nine → leb (at + 11) (length s) ≡ eleven →
-        Shows s at
-        (cond none Cut
-        (cond zero End
-        (cond one (cond nine (Add (AddTrack (trackAt s at))) Cut)
-        (cond two (cond eleven (Add (AddWall (wallAt s at))) Cut) Unknown))))
-    go true zero one two nine eleven a b c d e f = tt
-    go false true one two nine eleven a b c d e f = (leb-false _ _ a, eqb-true _ _ b)
-    go false false true two true eleven a b c d e f = track (eqb-true _ _ c) (leb-true _ _ e) refl
-    go false false true two false eleven a b c d e f = tt
-    go false false false true nine true a b c d e f = wall (eqb-true _ _ d) (leb-true _ _ f) refl
-    go false false false true nine false a b c d e f = tt
-    go false false false false nine eleven a b c d e f = tt
+shown : (s : List ℕ) (at : ℕ) (i : Item) → Stands s at i → Shows s at i
+shown s at i nothing = tt
+shown s at i (the-end l e) = (l, e)
+shown s at i (a-track l e) = track e l refl
+shown s at i (a-wall l e) = wall e l refl
+shown s at i unknown = tt
 
-pub whole-is : (s : List ℕ) (at : ℕ) (c : Command) → itemAt s at ≡ Add c → Bytes s at c
-whole-is s at c h = subst (Shows s at) h (shows s at)
+pub whole-is : (s : List ℕ) (at : ℕ) (c : Command) → itemAt s at ≡ Add c → Whole s at c
+whole-is s at c h = subst (Shows s at) h (shown s at (itemAt s at) (stands s at))
 
 pub end-is : (s : List ℕ) (at : ℕ) → itemAt s at ≡ End → (at < length s) × (getD s at 0 ≡ 0)
-end-is s at h = subst (Shows s at) h (shows s at)
+end-is s at h = subst (Shows s at) h (shown s at (itemAt s at) (stands s at))
 
 pub whole-fits : (s : List ℕ) (at : ℕ) (c : Command) → itemAt s at ≡ Add c → at + width c ≤ length s
 whole-fits s at c h = go (whole-is s at c h)
   where
-    go : Bytes s at c → at + width c ≤ length s
+    go : Whole s at c → at + width c ≤ length s
     go (track e f q) = rw q f
     go (wall e f q) = rw q f
 
@@ -97,20 +80,20 @@ module _ (s : List ℕ) (at : ℕ) (w : WholeAt s at) where
   pub known-inside : at < length s
   known-inside = go (whole-is s at (w .0) (w .1))
     where
-      go : Bytes s at (w .0) → at < length s
+      go : Whole s at (w .0) → at < length s
       go (track e f q) = omega arith
       go (wall e f q) = omega arith
 
   pub known-track : getD s at 0 ≡ 1 → at + 9 ≤ length s
   known-track h = go (whole-is s at (w .0) (w .1))
     where
-      go : Bytes s at (w .0) → at + 9 ≤ length s
+      go : Whole s at (w .0) → at + 9 ≤ length s
       go (track e f q) = f
       go (wall e f q) = absurd (omega arith)
 
   pub known-wall : (getD s at 0 ≡ 1 → ⊥) → (getD s at 0 ≡ 2) × (at + 11 ≤ length s)
   known-wall h = go (whole-is s at (w .0) (w .1))
     where
-      go : Bytes s at (w .0) → (getD s at 0 ≡ 2) × (at + 11 ≤ length s)
+      go : Whole s at (w .0) → (getD s at 0 ≡ 2) × (at + 11 ≤ length s)
       go (track e f q) = absurd (h e)
       go (wall e f q) = (e, f)

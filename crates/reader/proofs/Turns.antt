@@ -3,9 +3,8 @@ use Prim.Native.Nat.{ℕ, zero, suc, _≤_, _<_, _+_}
 use mathlib.Core.Path.{_≡_, refl, sym, ap, _∙_}
 use mathlib.Core.List.{List, [], _∷_, _++_}
 use mathlib.Core.Logic.{_⊎_, inl, inr}
-use mathlib.Core.Bool.{Bool, true, false, cond}
+use mathlib.Core.Bool.{cond}
 use native.Mathlib.Omega.{arith}
-use borrow.Author.Tests.{eqb-true}
 use lib.Dec.{eqb}
 use lib.ListN.{length}
 use Rattle.sheet.specs.declared.Command.{Command}
@@ -16,6 +15,7 @@ use Rattle.sheet.specs.Format.{itemAt, width}
 use Rattle.sheet.specs.Table.{table, firstBroken}
 use Rattle.sheet.specs.Returned.{Returned, accepted, refused}
 use Rattle.sheet.specs.Scan.{scan, atItem, andMore, commandsFrom}
+use Rattle.sheet.proofs.Encoded.{went-on}
 use Rattle.reader.specs.Walk.{WholeAt}
 use Rattle.reader.proofs.Items.{no-byte}
 
@@ -84,11 +84,7 @@ module _ (s : List ℕ) (at : ℕ) where
 
 -- a command of an accepted sheet breaks nothing, and what follows it is accepted
 pub accepted-add : (s : List ℕ) (at : ℕ) (before : List Command) (c : Command) → verdictFrom s at before ≡ accepted → itemAt s at ≡ Add c → (firstBroken table before c ≡ 0) × (verdictFrom s (at + width c) (before ++ (c ∷ [])) ≡ accepted)
-accepted-add s at before c h e = go (eqb (firstBroken table before c) 0) refl (sym (from-add s at before c e) ∙ h)
-  where
-    go : (b : Bool) → eqb (firstBroken table before c) 0 ≡ b → cond b (verdictFrom s (at + width c) (before ++ (c ∷ []))) (refused (firstBroken table before c) at) ≡ accepted → (firstBroken table before c ≡ 0) × (verdictFrom s (at + width c) (before ++ (c ∷ [])) ≡ accepted)
-    go true q r = (eqb-true _ _ q, r)
-    go false q r = let z : _≡_ {A = ℕ} 0 1 = cc in absurd (omega arith)
+accepted-add s at before c h e = went-on (firstBroken table before c) at _ (sym (from-add s at before c e) ∙ h)
 
 -- 00 or a whole command stands where the rest is accepted
 pub accepted-item : (s : List ℕ) (at : ℕ) (before : List Command) → verdictFrom s at before ≡ accepted → (itemAt s at ≡ End) ⊎ WholeAt s at

@@ -26,6 +26,7 @@ pub record Left (s : List ℕ) (p at : ℕ) (c : Command) (worst : ℕ) (before 
   pub walk : Walk s p at left
   pub least : lesser worst (worstOf c left) ≡ worstOf c before
 
+-- so far, whatever commands stand before; 12 stands for no clash
 pub record Clashed (s : List ℕ) (at : ℕ) (c : Command) (worst p : ℕ) : Type 0 where
   pub small : worst ≤ 12
   pub still : (before : List Command) → Walk s 0 at before → Left s p at c worst before

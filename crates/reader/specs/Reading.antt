@@ -1,4 +1,4 @@
--- What a call that reads a sheet's bytes gives: the verdict, and the records of an accepted sheet.
+-- What reading a sheet's bytes gives (document 01, "The sheet" and "Returned on refusal"): the verdict, and the records of an accepted sheet.
 use mathlib.Core.Path.{_≡_}
 use mathlib.Core.List.{List, []}
 use Prim.Native.Nat.{ℕ}

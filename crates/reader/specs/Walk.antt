@@ -1,4 +1,4 @@
--- The commands between two places of a sheet's bytes, and how many of each kind stand before a place.
+-- The commands before a place of a sheet's bytes, "a string of one-byte commands with operands of fixed width" (document 01, "The sheet").
 use mathlib.Core.Path.{_≡_}
 use mathlib.Core.List.{List, [], _∷_}
 use Prim.Native.Nat.{ℕ, _+_}
@@ -18,13 +18,13 @@ abbrev pub Walk : List ℕ → ℕ → ℕ → List Command → Type 0
 Walk s p q [] = p ≡ q
 Walk s p q (c ∷ l) = (itemAt s p ≡ Add c) × Walk s (p + width c) q l
 
--- the commands before a place, with the number of each kind
+-- these commands stand before a place, so many of each kind
 pub record Before (s : List ℕ) (at tracks walls : ℕ) (before : List Command) : Type 0 where
   pub walk : Walk s 0 at before
   pub tracks-are : tracks ≡ length (tracksOf before)
   pub walls-are : walls ≡ length (wallsOf before)
 
--- of a number for each kind, that of a command's
+-- of a number for tracks and one for walls, that of a command's kind
 abbrev pub ofKind : Command → ℕ → ℕ → ℕ
 ofKind (AddTrack a) tracks walls = tracks
 ofKind (AddWall w) tracks walls = walls

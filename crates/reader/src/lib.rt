@@ -100,7 +100,8 @@ fn bytes_of(c: Command) -> usize
     }
 }
 
-// The least of 8 to 11 that a command breaks with one before it, 12 if none. Those before are read again from the bytes.
+// The least of 8 to 11 that a command breaks with one before it, 12 if none. Those before are read again from the bytes:
+// no array of records is kept.
 fn clash_before(s: &[u8], at: usize, c: Command) -> u8
     requires { ⌜ ((before : List Command) × Walk (now s) 0 at before) ⌝ }
     ensures { λ r. ⌜ ((before : List Command) → Walk (now (s .entry)) 0 at before → r ≡ worstOf c before) ⌝ }
@@ -115,7 +116,7 @@ fn clash_before(s: &[u8], at: usize, c: Command) -> u8
     worst
 }
 
-// How many of a command's kind stand before it.
+// Of a number for tracks and one for walls, that of a command's kind.
 fn of_kind(c: Command, tracks: usize, walls: usize) -> usize
     ensures { λ r. ⌜ r ≡ ofKind c tracks walls ⌝ }
 {
@@ -144,7 +145,7 @@ fn judge_at(s: &[u8], at: usize, tracks: usize, walls: usize, c: Command) -> u8
     worst
 }
 
-// The verdict at 00.
+// The verdict at 00: 3 if bytes follow it.
 fn end_at(s: &[u8], at: usize) -> Verdict
     requires { ⌜ at < length (now s) ⌝ }
     ensures { λ r. ⌜ verdict r ≡ cond (eqb (at + 1) (length (now (s .entry)))) accepted (refused 3 (at + 1)) ⌝ }
@@ -209,7 +210,7 @@ fn blank() -> Sheet
     }
 }
 
-// The records of an accepted sheet.
+// The records of an accepted sheet, stored in place.
 fn load(s: &[u8]) -> Sheet
     requires { ⌜ verdictOf (now s) ≡ accepted ⌝ }
     ensures { λ r. ⌜ r ≡ sheetOf (listing (commandsOf (now (s .entry)))) ⌝ }
@@ -236,7 +237,7 @@ fn load(s: &[u8]) -> Sheet
     sheet
 }
 
-// What a sheet's bytes hold.
+// What reading gives; a refused sheet comes with no records.
 pub struct Reading {
     pub verdict: Verdict,
     pub sheet: Sheet,
