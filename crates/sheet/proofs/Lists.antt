@@ -1,5 +1,5 @@
--- Facts of every member and of every two places of a list: one more at the end, and another order. Assumes nothing.
-use mathlib.Core.Path.{_≡_, refl, sym, ap, _∙_, subst}
+-- Facts of every member and of every two places of a list: one more at the end, another order (`perm-pairs`), a strict order (`sorted-same`). Assumes nothing.
+use mathlib.Core.Path.{_≡_, refl, sym, ap, ap₂, _∙_, subst}
 use mathlib.Core.Logic.{_⊎_, inl, inr}
 use mathlib.Core.List.{List, [], _∷_, _++_, List·Memᴰ, List·Memᴰ·head, List·Memᴰ·tail, List·Memᴰ·cases-cons, List·Memᴰ·not-nil, Memᴰ·append-left, Memᴰ·append-right, List·Memᴰ·append-cases, List·Memᴰ·eq-of-singleton, List·Permᴰ, List·Permᴰ·nil, List·Permᴰ·cons, List·Permᴰ·swap, List·Permᴰ·trans, Permᴰ·symm}
 use Prim.Native.Nat.{ℕ, suc}
@@ -84,3 +84,27 @@ module _ {A : Type 0} where
       (λ y m. subst (λ x. R x y) e (h .0 y (List·Memᴰ·tail m)), h .1 .1),
     )
     perm-pairs (List·Permᴰ·trans p q) h = perm-pairs q (perm-pairs p h)
+
+-- ---- lists in a strict order
+
+module _ (A : Type 0) (R : A → A → Type 0) (asym : (x y : A) → R x y → ¬ R y x) where
+  heads : {x y : A} {l l′ : List A} → Pairwise R (x ∷ l) → Pairwise R (y ∷ l′) → (x ≡ y) ⊎ (x ∈ l′) → (y ≡ x) ⊎ (y ∈ l) → x ≡ y
+  heads s s′ (inl e) q = e
+  heads s s′ (inr m) (inl e) = sym e
+  heads {x} {y} s s′ (inr m) (inr k) = absurd (asym x y (s .0 y k) (s′ .0 x m))
+
+  -- what is in the tail is not the head
+  tails : {x y z : A} {l l′ : List A} → Pairwise R (x ∷ l) → x ≡ y → z ∈ l → (z ≡ y) ⊎ (z ∈ l′) → z ∈ l′
+  tails {x} {y} {z} s e m (inl f) = let r : R x x = subst (R x) (f ∙ sym e) (s .0 z m) in absurd (asym x x r r)
+  tails s e m (inr k) = k
+
+  pub sorted-same : (l l′ : List A) → Pairwise R l → Pairwise R l′ → ((x : A) → x ∈ l → x ∈ l′) → ((x : A) → x ∈ l′ → x ∈ l) → l ≡ l′
+  sorted-same [] [] s s′ f g = refl
+  sorted-same [] (y ∷ l′) s s′ f g = absurd (List·Memᴰ·not-nil (g y (List·Memᴰ·head refl)))
+  sorted-same (x ∷ l) [] s s′ f g = absurd (List·Memᴰ·not-nil (f x (List·Memᴰ·head refl)))
+  sorted-same (x ∷ l) (y ∷ l′) s s′ f g =
+      let e : x ≡ y = heads s s′ (List·Memᴰ·cases-cons (f x (List·Memᴰ·head refl))) (List·Memᴰ·cases-cons (g y (List·Memᴰ·head refl))) in
+      ap₂ _∷_ e
+      (sorted-same l l′ (s .1) (s′ .1)
+      (λ z m. tails s e m (List·Memᴰ·cases-cons (f z (List·Memᴰ·tail m))))
+      (λ z m. tails s′ (sym e) m (List·Memᴰ·cases-cons (g z (List·Memᴰ·tail m)))))

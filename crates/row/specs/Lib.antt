@@ -1,0 +1,4 @@
+pub mod Small
+pub mod Place
+pub mod RowAt
+pub mod Written
