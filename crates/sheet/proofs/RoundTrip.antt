@@ -1,11 +1,11 @@
 -- What reading and writing do to each other. Main theorems: `accepted-exactly` and `accepted-records` (the scan refuses nothing exactly when Accepted holds), `order-verdict` (in every order),
 -- `read-written` (records by rising id), `written-read` (the ordered form), `same-sheet` (read after write after read). Assumes nothing.
 use mathlib.Core.Path.{_≡_, refl, sym, ap, ap₂, _∙_, subst}
-use mathlib.Core.Logic.{_⊎_, inl, inr, _↔_}
+use mathlib.Core.Logic.{_↔_}
 use mathlib.Core.List.{List, [], _∷_, _++_, map, append-assoc, append-nil, List·Memᴰ·head, List·Memᴰ·tail, List·Permᴰ, Permᴰ·symm}
-use Prim.Native.Nat.{ℕ, _≤_, _<_, _-_}
+use Prim.Native.Nat.{ℕ, _≤_, _-_}
 use native.Mathlib.Omega.{arith}
-use lib.ListN.{length, take, replicate, length-append}
+use lib.ListN.{length, take}
 use lib.Seq.{take-append-seam}
 use Rattle.layout.specs.Bytes.{AllBytes}
 use Rattle.sheet.specs.declared.Track.{Track}
@@ -14,18 +14,18 @@ use Rattle.sheet.specs.declared.Command.{Command}
 use Rattle.sheet.specs.declared.Command.the-variants.{AddTrack, AddWall}
 use Rattle.sheet.specs.Listing.{Listing, _∈_, tracksOf, wallsOf, listing}
 use Rattle.sheet.specs.Format.{TrackFits, WallFits, CommandFits, encodeAll}
-use Rattle.sheet.specs.Returned.{Returned, accepted}
+use Rattle.sheet.specs.Returned.{accepted}
 use Rattle.sheet.specs.Scan.{verdictOf, commandsOf}
 use Rattle.sheet.specs.Accepted.{Accepted}
-use Rattle.sheet.specs.Ordered.{sortBy, ordered, commandsIn, orderedForm}
-use Rattle.sheet.specs.HandedIn.{noTrack, noWall, handedIn, listedForm, checkOf, filled, sheetOf}
-use Rattle.sheet.proofs.Lists.{all-cons, perm-mem}
+use Rattle.sheet.specs.Ordered.{ordered, commandsIn, orderedForm}
+use Rattle.sheet.specs.HandedIn.{noTrack, noWall, handedIn, checkOf, filled, sheetOf}
+use Rattle.sheet.proofs.Lists.{perm-mem}
 use Rattle.sheet.proofs.Format.{clip, clip-fits}
 use Rattle.sheet.proofs.Encoded.{judged, verdict-encoded, commands-encoded}
 use Rattle.sheet.proofs.Decoded.{accepted-bytes, accepted-fits}
-use Rattle.sheet.proofs.Acceptance.{idOf, IdsIn, each-kind, track-in, wall-in, tracks-append, walls-append, none-refused, refuses-none}
-use Rattle.sheet.proofs.Order.{Reordered, reordered, accepted-reordered, accepted-order}
-use Rattle.sheet.proofs.Sorted.{Rising, sort-perm, sort-rising, sort-order, sort-again}
+use Rattle.sheet.proofs.Acceptance.{idOf, each-kind, track-in, wall-in, tracks-append, walls-append, none-refused, refuses-none}
+use Rattle.sheet.proofs.Order.{Reordered, accepted-reordered, accepted-order}
+use Rattle.sheet.proofs.Sorted.{Rising, sort-perm, sort-rising, sort-order}
 
 -- ---- the scan and Accepted
 
