@@ -25,6 +25,6 @@ fn compare(program: &str, mode: &str) {
 }
 
 #[test]
-fn sheet_vectors() {
-    compare("sheet_vectors", "expected");
+fn vectors_program() {
+    compare("vectors", "expected");
 }

@@ -2,7 +2,7 @@
 //!
 //! - `vectors sheets` writes framed sheets, and a histogram of their refusals to standard error.
 //! - `vectors expected`, `vectors rolls` and `vectors cells` read such frames and print a line for
-//!   each: what the reader and the writer give, the cells entered and the roll, the cell listings.
+//!   each: what reader, writer and plain run give, the cells entered and the roll, the cell listings.
 //! - `vectors roll` reads one sheet without a frame and prints what program `roll` prints.
 
 #![forbid(unsafe_code)]
@@ -65,10 +65,12 @@ fn hexadecimal(bytes: &[u8]) -> String {
     bytes.iter().map(|byte| format!("{byte:02x}")).collect()
 }
 
-/// Numbers of tracks and walls, and the ordered form.
-fn ordered_line(records: &Records) -> String {
+/// Numbers of tracks and walls and the ordered form; in a second line the roll's bytes.
+fn expected_lines(records: &Records) -> String {
     let Records { tracks, walls } = records;
-    format!("{} {} {}", tracks.len(), walls.len(), hexadecimal(&ordered_form(tracks, walls)))
+    let form = hexadecimal(&ordered_form(tracks, walls));
+    let rows = hexadecimal(&roll_bytes(&roll(records)));
+    format!("{} {} {form}\nroll {rows}", tracks.len(), walls.len())
 }
 
 /// The cells entered at each of the six figures, then the roll's bytes (none without tracks).
@@ -109,7 +111,7 @@ fn main() -> ExitCode {
     let mut out = BufWriter::new(io::stdout().lock());
     let done = match std::env::args().nth(1).as_deref() {
         Some("sheets") => write_sheets(&mut out),
-        Some("expected") => print_lines(&mut out, ordered_line),
+        Some("expected") => print_lines(&mut out, expected_lines),
         Some("rolls") => print_lines(&mut out, roll_line),
         Some("cells") => print_lines(&mut out, cells_line),
         Some("roll") => print_roll(&mut out),

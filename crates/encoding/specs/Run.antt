@@ -1,0 +1,27 @@
+-- Commands one behind the other, without the end.
+use mathlib.Core.Path.{_≡_}
+use mathlib.Core.List.{List, [], _∷_, _++_}
+use Prim.Native.Nat.{ℕ, _+_}
+use lib.ListN.{length}
+use lib.Seq.{sets}
+use Rattle.sheet.specs.declared.Command.{Command}
+use Rattle.sheet.specs.declared.Command.the-variants.{AddTrack, AddWall}
+use Rattle.sheet.specs.Format.{encode}
+use Rattle.sheet.specs.HandedIn.{noTrack}
+
+unfoldable pub run : List Command → List ℕ
+run [] = []
+run (c ∷ l) = encode c ++ run l
+
+-- what a store of commands from a place on leaves, and the place behind them
+pub record Ran (at : ℕ) (l : List Command) (before after : List ℕ) (end : ℕ) : Type 0 where
+  pub stored : after ≡ sets before at (run l)
+  pub ends : end ≡ at + length (run l)
+
+abbrev pub idOf : Command → ℕ
+idOf (AddTrack a) = a .id
+idOf (AddWall w) = w .id
+
+-- what stands past the end of an array of commands
+abbrev pub noCommand : Command
+noCommand = AddTrack noTrack

@@ -1,0 +1,41 @@
+// Records handed in: checked as the sheet that lists them would be, and written in the ordered form (document 01, "The sheet").
+ghost use mathlib.Core.Path.{_≡_};
+ghost use Prim.Native.Nat.{_+_, _*_, _≤_, _<_};
+ghost use lib.ListN.{length};
+ghost use Rattle.sheet.specs.Returned.{verdict};
+ghost use Rattle.sheet.specs.HandedIn.{checkOf};
+ghost use Rattle.writer.specs.Written.{written, writeOf, bufferAfter};
+use sheet::{Sheet, Verdict};
+
+// The length written, or the table's number with its place or length.
+pub enum Written {
+    Length(usize),
+    Refused(u8, usize),
+}
+
+// The verdict on records handed in.
+pub fn check(sheet: Sheet) -> Verdict
+    ensures { λ r. ⌜ verdict r ≡ checkOf sheet ⌝ }
+{
+    let mut listed = [0u8; 5141];
+    let n = encoding::list(sheet, &mut listed);
+    reader::scan(&listed[..n])
+}
+
+// Writes the ordered form.
+pub fn write(sheet: Sheet, out: &mut [u8]) -> Written
+    ensures { λ r. ⌜ (written r ≡ writeOf sheet (length (now (out .entry)))) × (now (out .exit) ≡ bufferAfter sheet (now (out .entry))) ⌝ }
+{
+    let v = check(sheet);
+    match v {
+        Verdict::Refused(number, place) => Written::Refused(number, place),
+        Verdict::Accepted => {
+            let needed = sheet.ntracks * 9 + sheet.nwalls * 11 + 1;
+            if out.len() < needed {
+                return Written::Refused(12, needed);
+            }
+            encoding::order(sheet, out);
+            Written::Length(needed)
+        }
+    }
+}
