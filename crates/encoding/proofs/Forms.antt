@@ -51,9 +51,9 @@ pub ran-both : (l k : List Command) {at mid end : ℕ} {before between after : L
     → Ran at (l ++ k) before after end
 ran-both l k {at} {mid} {end} {before} {between} {after} p q =
     let g : length (run (l ++ k)) ≡ length (run l) + length (run k) = ap length (run-append l k) ∙ length-append (run l) (run k) in
-    record
-    { stored = rw (q .stored, p .stored, p .ends, run-append) (sets-both (run l) (run k) before at)
-    ; ends = omega arith
+    record {
+      stored = rw (q .stored, p .stored, p .ends, run-append) (sets-both (run l) (run k) before at);
+      ends = omega arith;
     }
 
 pub closed : (l : List Command) {end : ℕ} {before after : List ℕ} → Ran 0 l before after end → set after end 0 ≡ sets before 0 (encodeAll l)

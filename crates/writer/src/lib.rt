@@ -1,11 +1,11 @@
 // Records handed in: checked as the sheet that lists them would be, and written in the ordered form (document 01, "The sheet").
 ghost use mathlib.Core.Path.{_≡_};
-ghost use Prim.Native.Nat.{_+_, _*_, _≤_, _<_};
 ghost use lib.ListN.{length};
 ghost use Rattle.sheet.specs.Returned.{verdict};
 ghost use Rattle.sheet.specs.HandedIn.{checkOf};
 ghost use Rattle.writer.specs.Written.{written, writeOf, bufferAfter};
-use sheet::{Sheet, Verdict};
+use sheet::Sheet;
+use sheet::Verdict;
 
 // The length written, or the table's number with its place or length.
 pub enum Written {

@@ -1,32 +1,24 @@
-use mathlib.Core.Path.{sym, ap, _∙_}
+-- An accepted sheet has at most 256 records of each kind, so the length is exact and nothing wraps.
+use mathlib.Core.Path.{sym, ap, _∙_, _≡_}
+use borrow.Author.Needs.{needs}
+use native.Mathlib.Omega.{arith}
+use Prim.Native.Nat.{_≤_, _+_, _*_}
+use lib.ListN.{length}
 use Rattle.sheet.specs.Returned.{verdict, accepted}
 use Rattle.sheet.specs.HandedIn.{checkOf}
 use Rattle.encoding.proofs.Forms.{sized}
 use Rattle.writer.specs.Written.{formOf}
 use Rattle.writer.proofs.Counts.{few, needed}
 use Rattle.writer.proofs.Outcome.{as-checked, too-short, stored}
-use borrow.Author.Needs.{needs}
-use native.Mathlib.Omega.{arith}
-use Prim.Native.Nat.{ℕ, _≤_, _<_, _-_, _+_, _*_}
-use mathlib.Core.Path.{_≡_}
-use lib.ListN.{length, getD, take, drop, set}
-use borrow.Author.Needs.{needs}
 use Rattle.writer.proofs.write.Statement.{statement}
 use Rattle.writer.proofs.write.Tie as tie
-use Rattle.writer.proofs.write.Reads as reads
-use Rattle.writer.proofs.write.Lts as lts
-use Rattle.encoding.proofs.order.Reads as order-reads
-use Rattle.writer.proofs.check.Reads as check-reads
 
--- src/lib.rt:29:9
 check-requires : tie.Need-check-requires
 check-requires c κs = search needs
 
--- src/lib.rt:31:26
 enum-known-v : tie.Need-enum-known-v
 enum-known-v c = search needs
 
--- src/lib.rt:33:26
 enum-told : tie.Need-enum-told
 enum-told c = search needs
 
@@ -44,44 +36,35 @@ form c =
     let s = c .before .before .before .before .args .sheet in
     needed s (sized _ (s .tracks) (c .before .before .before .before .good .0 .1 .1 .0 .1 .0 .1)) (sized _ (s .walls) (c .before .before .before .before .good .0 .1 .1 .1 .1 .0 .1 .0 .1)) (ok c)
 
--- src/lib.rt:33:26
 mul-needed : tie.Need-mul-needed
 mul-needed c = let f = counts (c .before) in record { fits = omega arith }
 
--- src/lib.rt:33:46
 mul-needed-2 : tie.Need-mul-needed-2
 mul-needed-2 c = let f = counts (c .before .before) in record { fits = omega arith }
 
--- src/lib.rt:33:26
 add-needed : tie.Need-add-needed
 add-needed c = let f = counts (c .before .before) in record { fits = omega arith }
 
--- src/lib.rt:33:26
 add-needed-2 : tie.Need-add-needed-2
 add-needed-2 c = let f = counts (c .before .before) in record { fits = omega arith }
 
--- src/lib.rt:35:17
 returns : tie.Need-returns
 returns c =
     let e = c .before .before .before in
     let z = e .before .before .before .before .args in
     too-short (z .sheet) (z .out .now) (ok e) (form e) (c .if1 .taken)
 
--- src/lib.rt:37:13
 order-requires : tie.Need-order-requires
 order-requires c κs = (counts (c .before .before .before .before), c .before .if1 .left)
 
--- src/lib.rt:26:1
 returns-2 : tie.Need-returns-2
 returns-2 c =
     let z = c .before .before .before .before .before .args in
     as-checked (z .sheet) (z .out .now) _ _ (sym (c .before .before .before .check .ensures) ∙ ap verdict (c .before .v .given .1))
 
--- src/lib.rt:26:1
 same-length : tie.Need-same-length
 same-length c = search needs
 
--- src/lib.rt:26:1
 returns-3 : tie.Need-returns-3
 returns-3 c =
     let e = c .before .before .before .before .before .before .before in

@@ -1,0 +1,30 @@
+//! The proved library: what crates/exports declares, behind safe functions.
+
+mod c {
+    extern "C" {
+        pub fn fissure_check(sheet: *const u8, length: usize, second: &mut u64) -> u64;
+        pub fn fissure_order(sheet: *const u8, length: usize, out: *mut u8, room: usize, second: &mut u64) -> u64;
+        pub fn fissure_plain(sheet: *const u8, length: usize, out: *mut u8, room: usize, second: &mut u64) -> u64;
+    }
+}
+
+/// The table's number, 0 where nothing is refused, and the other number of the answer.
+pub type Answer = (u64, u64);
+
+pub fn check(sheet: &[u8]) -> Answer {
+    let mut second = 0;
+    let number = unsafe { c::fissure_check(sheet.as_ptr(), sheet.len(), &mut second) };
+    (number, second)
+}
+
+pub fn order(sheet: &[u8], out: &mut [u8]) -> Answer {
+    let mut second = 0;
+    let number = unsafe { c::fissure_order(sheet.as_ptr(), sheet.len(), out.as_mut_ptr(), out.len(), &mut second) };
+    (number, second)
+}
+
+pub fn plain(sheet: &[u8], out: &mut [u8]) -> Answer {
+    let mut second = 0;
+    let number = unsafe { c::fissure_plain(sheet.as_ptr(), sheet.len(), out.as_mut_ptr(), out.len(), &mut second) };
+    (number, second)
+}

@@ -1,0 +1,12 @@
+pub mod Distinct
+pub mod Cut
+pub mod Border
+pub mod Axis
+pub mod Entry
+pub mod Walk
+pub mod Count
+pub mod Entered
+pub mod Total
+pub mod Floor
+pub mod Points
+pub mod Worked

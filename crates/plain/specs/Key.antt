@@ -1,0 +1,33 @@
+-- Which tip ends next: the roll's order, "by rising time, equal times by rising id" (document 01, "The rule of ending"), over the tips that still run.
+use mathlib.Core.Path.{_≡_}
+use mathlib.Core.Logic.{_⊎_}
+use mathlib.Core.List.{List}
+use Prim.Native.Nat.{ℕ, _+_, _*_, _≤_, _<_}
+use lib.ListN.{getD}
+use Rattle.exact.specs.Time.{_<ᵗ_, _≈ᵗ_, fraction}
+use Rattle.sheet.specs.declared.Sheet.{Sheet}
+use Rattle.sheet.specs.HandedIn.{noTrack}
+use Rattle.exact.specs.Small.{Small}
+use Rattle.plain.specs.declared.Key.{Key}
+
+pub record Timed (k : Key) : Type 0 where
+  pub small : Small (k .u) (k .ud)
+
+-- a is not behind b
+pub data Ahead (a b : Key) : Type 0 where
+  running : a .over < b .over → Ahead a b
+  earlier : a .over ≡ b .over → fraction (a .u) (a .ud) <ᵗ fraction (b .u) (b .ud) → Ahead a b
+  together : a .over ≡ b .over → fraction (a .u) (a .ud) ≈ᵗ fraction (b .u) (b .ud) → a .id ≤ b .id → Ahead a b
+
+-- r is the one of a and b that is ahead
+abbrev pub Soonest : Key → Key → Key → Type 0
+Soonest a b r = ((r ≡ a) × Ahead a b) ⊎ ((r ≡ b) × Ahead b a)
+
+-- the key of the tip at i
+abbrev pub keyAt : Sheet → List ℕ → List ℕ → ℕ → Key
+keyAt s table over i = record { over = getD over i 0; u = getD table (7 * i) 0; ud = getD table (7 * i + 1) 0; id = getD (s .tracks) i noTrack .id; at = i }
+
+-- the tip at r is ahead of the first k
+pub record Picked (s : Sheet) (table over : List ℕ) (k r : ℕ) : Type 0 where
+  pub place : r < s .ntracks
+  pub ahead : (j : ℕ) → j < k → Ahead (keyAt s table over r) (keyAt s table over j)

@@ -1,0 +1,55 @@
+// The plain run as callers reach it: records or bytes in, the roll's rows out (document 01, "The rule of ending" and "Returned on refusal").
+ghost use mathlib.Core.Path.{_≡_};
+ghost use lib.ListN.{length};
+ghost use Rattle.sheet.specs.Listing.{listing};
+ghost use Rattle.sheet.specs.Returned.{accepted};
+ghost use Rattle.sheet.specs.Scan.{verdictOf, commandsOf};
+ghost use Rattle.sheet.specs.HandedIn.{handedIn, checkOf};
+ghost use Rattle.causes.specs.Looked.{Ready};
+ghost use Rattle.plain_run.specs.Rolled.{Rolls};
+use sheet::Sheet;
+use sheet::Verdict;
+
+// The number of rows, or the table's number with its place or length.
+pub enum Rolled {
+    Rows(usize),
+    Refused(u8, usize),
+}
+
+// The rows of an accepted sheet, or 12.
+fn rows(sheet: Sheet, out: &mut [u8]) -> Rolled
+    requires { ⌜ Ready sheet ⌝ }
+    ensures { λ r. ⌜ Rolls accepted (handedIn sheet) (now (out .entry)) (now (out .exit)) r ⌝ }
+{
+    let n = sheet.ntracks;
+    let needed = 29 * n;
+    if out.len() < needed {
+        return Rolled::Refused(12, needed);
+    }
+    plain::roll(sheet, out);
+    Rolled::Rows(n)
+}
+
+// The roll of records handed in.
+pub fn plain_roll(sheet: Sheet, out: &mut [u8]) -> Rolled
+    ensures { λ r. ⌜ Rolls (checkOf sheet) (handedIn sheet) (now (out .entry)) (now (out .exit)) r ⌝ }
+{
+    let v = writer::check(sheet);
+    match v {
+        Verdict::Refused(number, place) => Rolled::Refused(number, place),
+        Verdict::Accepted => rows(sheet, out),
+    }
+}
+
+// The roll of a sheet's bytes.
+pub fn plain_roll_bytes(s: &[u8], out: &mut [u8]) -> Rolled
+    ensures { λ r. ⌜ Rolls (verdictOf (now (s .entry))) (listing (commandsOf (now (s .entry)))) (now (out .entry)) (now (out .exit)) r ⌝ }
+{
+    let r = reader::read(s);
+    let v = r.verdict;
+    let sheet = r.sheet;
+    match v {
+        Verdict::Refused(number, place) => Rolled::Refused(number, place),
+        Verdict::Accepted => rows(sheet, out),
+    }
+}

@@ -1,0 +1,4 @@
+pub mod Headings
+pub mod Onsets
+pub mod Crossings
+pub mod Counting
