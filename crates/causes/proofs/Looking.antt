@@ -31,7 +31,8 @@ use Rattle.causes.specs.Cause.{tipAt, wallAt, whyOf, candOf, Stands, Lea
 use Rattle.causes.specs.Offer.{AtEdge, wallCause, WallOffered, passed, struck, tipCause, TipOffered, itself, missed, void, met}
 use Rattle.causes.specs.Looked.{Ready, OfWalls, endAt, Ends, OfTracks}
 use Rattle.causes.proofs.Answers.{small-zero}
-use Rattle.causes.proofs.Places.{mem-at, tracks-count, walls-count, track-read, wall-read, track-in}
+use Rattle.sheet.proofs.Lists.{mem-at}
+use Rattle.causes.proofs.Places.{tracks-count, walls-count, track-read, wall-read, track-in}
 use Rattle.causes.proofs.First.{first-stands, first-left, first-right}
 
 -- a wall or the edge counts whatever has ended

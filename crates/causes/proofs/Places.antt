@@ -1,4 +1,4 @@
--- Members of a list by their places (`mem-at`, `at-mem`), and the records of a sheet in its arrays (`track-read`, `wall-read`).
+-- The records of a sheet in its arrays (`track-read`, `wall-read`).
 use mathlib.Core.List.{List, [], _∷_, _++_, List·Memᴰ·head, List·Memᴰ·tail, List·Memᴰ·cases-cons, List·Memᴰ·not-nil}
 use mathlib.Core.Logic.{_⊎_, inl, inr}
 use mathlib.Core.Path.{_≡_, refl, sym, _∙_, subst}
@@ -10,23 +10,11 @@ use Rattle.sheet.specs.Accepted.{TrackOk, WallOk}
 use Rattle.sheet.specs.HandedIn.{handedIn, noTrack, noWall}
 use Rattle.sheet.specs.Listing.{_∈_}
 use Rattle.sheet.specs.declared.Sheet.{Sheet}
+use Rattle.sheet.proofs.Lists.{mem-at}
 use Rattle.causes.specs.Cause.{tipAt, wallAt}
 use Rattle.causes.specs.Looked.{Ready}
 
 module _ {A : Type 0} (d : A) where
-  pub mem-at : (l : List A) (i : ℕ) → i < length l → getD l i d ∈ l
-  mem-at [] i h = absurd (omega arith)
-  mem-at (x ∷ l) zero h = List·Memᴰ·head refl
-  mem-at (x ∷ l) (suc i) h = List·Memᴰ·tail (mem-at l i (omega arith))
-
-  pub at-mem : (l : List A) (a : A) → a ∈ l → (i : ℕ) × (i < length l) × (getD l i d ≡ a)
-  at-mem [] a m = absurd (List·Memᴰ·not-nil m)
-  at-mem (x ∷ l) a m = go (List·Memᴰ·cases-cons m) (at-mem l a)
-    where
-      go : (a ≡ x) ⊎ (a ∈ l) → (a ∈ l → (i : ℕ) × (i < length l) × (getD l i d ≡ a)) → (i : ℕ) × (i < length (x ∷ l)) × (getD (x ∷ l) i d ≡ a)
-      go (inl e) rec = (0, omega arith, sym e)
-      go (inr n) rec = let (i, h, e) = rec n in (suc i, omega arith, e)
-
   -- the first n of an array, as `handedIn` has them
   pub read : (l : List A) (n i : ℕ) → n ≤ length l → i < n → getD (take n (l ++ (d ∷ []))) i d ≡ getD l i d
   read l n i h k = getD-take n (l ++ (d ∷ [])) i d k ∙ List·getD-append l (d ∷ []) d i (omega arith)

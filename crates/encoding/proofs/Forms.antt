@@ -86,10 +86,6 @@ take-map f zero l = refl
 take-map f (suc n) [] = refl
 take-map f (suc n) (a ∷ l) = ap (λ s. f a ∷ s) (take-map f n l)
 
--- an array that is a field of a struct has as many elements as its type says
-pub sized : {A B : Type 0} (f : A → B) (l : List A) {n : ℕ} → length (map f l) ≡ n → length l ≡ n
-sized f l e = sym (length-map l f) ∙ e
-
 -- a kind's records as commands, each of w bytes; n of the records are claimed, `blank` behind them
 module _ {A : Type 0} (f : A → Command) (w : ℕ) (one-width : (a : A) → width (f a) ≡ w) (l : List A) (blank : A) (n : ℕ) {commands : List Command}
     (e : commands ≡ map f l) where

@@ -42,7 +42,8 @@ use Rattle.row.proofs.Roll.{written-more}
 use Rattle.causes.specs.declared.Cause.{Cause}
 use Rattle.causes.specs.Cause.{tipAt, whyOf, candOf, Fine, Stands}
 use Rattle.causes.specs.Looked.{endAt, Gone, Ends}
-use Rattle.causes.proofs.Places.{mem-at, at-mem, tracks-count, track-read, track-in, track-ok}
+use Rattle.sheet.proofs.Lists.{mem-at, at-mem}
+use Rattle.causes.proofs.Places.{tracks-count, track-read, track-in, track-ok}
 use Rattle.table.specs.Table.{causeAt}
 use Rattle.plain.specs.Key.{Ahead, running, earlier, together, keyAt, Picked}
 use Rattle.plain.specs.State.{Held, Seen, Kept, Refreshed, EndingOf, meets, crosses, strikes, leaves, nextRow, State}

@@ -23,7 +23,7 @@ use Rattle.sheet.specs.Ordered.{commandsIn}
 use Rattle.sheet.specs.Returned.{Returned, accepted}
 use Rattle.sheet.specs.Scan.{verdictOf, commandsOf}
 use Rattle.sheet.proofs.Acceptance.{each-kind}
-use Rattle.sheet.proofs.RoundTrip.{AllFit, accepted-exactly, accepted-records, listed, handed-back}
+use Rattle.sheet.proofs.RoundTrip.{AllFit, Fit, all-fit, accepted-exactly, accepted-records, listed, handed-back}
 use Rattle.reader.specs.Reading.{ifAccepted, recordsOf}
 use Rattle.causes.specs.Looked.{Ready}
 
@@ -36,10 +36,6 @@ each-in f own P h (x ∷ l) (u ∷ us) s a m = go (List·Memᴰ·cases-cons m) (
     go : (a ≡ x) ⊎ (a ∈ l) → (a ∈ l → P a) → P a
     go (inl e) rec = subst P (sym e) (h x u (s .0))
     go (inr n) rec = rec n
-
--- an array has as many elements as its type says
-pub sized : {A B : Type 0} (f : A → B) (l : List A) {n : ℕ} → length (map f l) ≡ n → length l ≡ n
-sized f l e = sym (length-map l f) ∙ e
 
 -- ---- records handed in
 
@@ -70,12 +66,6 @@ no-track-fits = record { id = record { fits = lit< tt }; x = record { fits = lit
 no-wall-fits : WallFits noWall
 no-wall-fits = record { id = record { fits = lit< tt }; ax = record { fits = lit< tt }; ay = record { fits = lit< tt }; bx = record { fits = lit< tt }; by = record { fits = lit< tt } }
 
-all-fit : (S : Listing) → ((a : Track) → a ∈ S .tracks → TrackFits a) → ((w : Wall) → w ∈ S .walls → WallFits w) → AllFit (commandsIn S)
-all-fit S f g c m =
-    each-kind CommandFits (commandsIn S)
-    (λ a n. f a (subst (λ (l : List Track). a ∈ l) (ap (λ (T : Listing). T .tracks) (listed S)) n))
-    (λ w n. g w (subst (λ (l : List Wall). w ∈ l) (ap (λ (T : Listing). T .walls) (listed S)) n)) c m
-
 -- of more than 256 claimed the blank would be the 257th
 few : {A : Type 0} (l : List A) (d : A) (n : ℕ) → length l ≡ 256 → length (take n (l ++ (d ∷ []))) ≤ 256 → n ≤ 256
 few l d n e h = omega (arith, length-append l (d ∷ []), length-take n (l ++ (d ∷ [])))
@@ -83,7 +73,7 @@ few l d n e h = omega (arith, length-append l (d ∷ []), length-take n (l ++ (d
 pub handed-ready : {s : Sheet} → length (s .tracks) ≡ 256 → length (s .walls) ≡ 256 → ((a : Track) → a ∈ s .tracks → TrackFits a) → ((w : Wall) → w ∈ s .walls → WallFits w) → checkOf s ≡ accepted → Ready s
 handed-ready {s} t w f g ok =
     let S = handedIn s in
-    let h = all-fit S (claimed TrackFits (s .tracks) noTrack (s .ntracks) f no-track-fits) (claimed WallFits (s .walls) noWall (s .nwalls) g no-wall-fits) in
+    let h = all-fit S (record { tracks = claimed TrackFits (s .tracks) noTrack (s .ntracks) f no-track-fits; walls = claimed WallFits (s .walls) noWall (s .nwalls) g no-wall-fits }) in
     let acc : Accepted S = subst Accepted (listed S) (accepted-exactly h .0 ok) in
     record {
       accepted = acc;

@@ -17,6 +17,7 @@ use Rattle.rule.specs.Contact.{when}
 use Rattle.rule.specs.WallTime.{wallTime}
 use Rattle.rule.specs.EdgeTime.{rim}
 use Rattle.rule.specs.Causes.{by-side, by-rim, Cand, Below, rowOf}
+use Rattle.sheet.proofs.Lists.{mem-at, at-mem}
 use Rattle.rule.proofs.Tests.{eqb-self, eqb-other}
 use Rattle.rule.proofs.Starts.{Ids}
 use Rattle.rule.proofs.Running.{Fresh, Runs}
@@ -24,19 +25,6 @@ use Rattle.rule.proofs.Known.{Beats}
 use Rattle.rule.proofs.Turn.{Formal, Live, beats-step, Progress, SeenAll, seen-all, take-turn}
 
 module _ (d : Track) where
-  pub mem-at : (l : List Track) (i : ℕ) → i < length l → getD l i d ∈ l
-  mem-at [] i h = absurd (omega arith)
-  mem-at (x ∷ l) zero h = List·Memᴰ·head refl
-  mem-at (x ∷ l) (suc i) h = List·Memᴰ·tail (mem-at l i (omega arith))
-
-  pub at-mem : (l : List Track) (a : Track) → a ∈ l → (i : ℕ) × (i < length l) × (getD l i d ≡ a)
-  at-mem [] a m = absurd (List·Memᴰ·not-nil m)
-  at-mem (x ∷ l) a m = go (List·Memᴰ·cases-cons m) (at-mem l a)
-    where
-      go : (a ≡ x) ⊎ (a ∈ l) → (a ∈ l → (i : ℕ) × (i < length l) × (getD l i d ≡ a)) → (i : ℕ) × (i < length (x ∷ l)) × (getD (x ∷ l) i d ≡ a)
-      go (inl e) rec = (0, omega arith, sym e)
-      go (inr n) rec = let (i, h, e) = rec n in (suc i, omega arith, e)
-
   -- where an id stands
   place : List Track → ℕ → ℕ
   place [] j = 0
@@ -46,7 +34,7 @@ module _ (d : Track) where
   unfolding place
   place-at [] p i h = absurd (omega arith)
   place-at (x ∷ l) p zero h = rw (eqb-self (x .id), place) refl
-  place-at (x ∷ l) p (suc i) h = rw (eqb-other (x .id) (getD l i d .id) (p .0 (getD l i d) (mem-at l i (omega arith))), place) (ap suc (place-at l (p .1) i (omega arith)))
+  place-at (x ∷ l) p (suc i) h = rw (eqb-other (x .id) (getD l i d .id) (p .0 (getD l i d) (mem-at d l i (omega arith))), place) (ap suc (place-at l (p .1) i (omega arith)))
 
   module _ {S : Listing} (acc : Accepted S) where
     abbrev pub tr : ℕ → Track
@@ -57,7 +45,7 @@ module _ (d : Track) where
     RunsAt done i = (i < length (S .tracks)) × Fresh done (tr i)
 
     runs-at : {done : List Row} {i : ℕ} → RunsAt done i → Runs S done (tr i)
-    runs-at {i = i} h = record { on-sheet = mem-at (S .tracks) i (h .0); fresh = h .1 }
+    runs-at {i = i} h = record { on-sheet = mem-at d (S .tracks) i (h .0); fresh = h .1 }
 
     best : (ℕ → Cand) → Track → Cand
     best cand a = cand (place (S .tracks) (a .id))
@@ -75,14 +63,14 @@ module _ (d : Track) where
     -- by places: what holds at each place holds of each running tip
     of-place : (done : List Row) (P : Track → Type 0) → ((j : ℕ) → RunsAt done j → P (tr j)) → (b : Track) → Runs S done b → P b
     of-place done P f b m =
-        let (j, h, e) = at-mem (S .tracks) b (m .on-sheet) in
+        let (j, h, e) = at-mem d (S .tracks) b (m .on-sheet) in
         subst P e (f j (h, subst (λ (z : Track). Fresh done z) (sym e) (m .fresh)))
 
     seen-at : (done : List Row) (cand : ℕ → Cand) → SeenAt done cand → SeenAll S done (best cand)
     seen-at done cand s =
         record {
           at-tips = λ a b m n e. of-place done (λ a. b .id ≢ a .id → Beats done (best cand a) a b)
-              (λ j h e. let (k, i, x) = at-mem (S .tracks) b n in
+              (λ j h e. let (k, i, x) = at-mem d (S .tracks) b n in
               subst (λ (z : Cand). Beats done z (tr j) b) (sym (best-at cand j (h .0)))
               (subst (λ (z : Track). Beats done (cand j) (tr j) z) x (s .at-tips j k h i (subst (λ (z : Track). z .id ≢ tr j .id) (sym x) e)))) a m e;
           at-walls = λ a w u m n e. of-place done (λ a. wallTime a w ≡ when u → Below (best cand a) u (by-side w))
@@ -110,7 +98,7 @@ module _ (d : Track) where
     pub seen-next : {done : List Row} {cand : ℕ → Cand} (r : Row) (i : ℕ) → RunsAt done i → r .id ≡ tr i .id → SeenAt done cand → SeenAt (r ∷ done) cand
     seen-next {done} {cand} r i h e s =
         record {
-          at-tips = λ j k m n x. beats-step (tr i) r acc (mem-at (S .tracks) j (m .0)) (mem-at (S .tracks) k n) x e (runs-at h) (s .at-tips j k (before j m) n x);
+          at-tips = λ j k m n x. beats-step (tr i) r acc (mem-at d (S .tracks) j (m .0)) (mem-at d (S .tracks) k n) x e (runs-at h) (s .at-tips j k (before j m) n x);
           at-walls = λ j w u m n x. s .at-walls j w u (before j m) n x;
           at-rim = λ j m. s .at-rim j (before j m);
         }

@@ -1,10 +1,10 @@
 -- Facts of every member and of every two places of a list: one more at the end, another order (`perm-pairs`), a strict order (`sorted-same`). Assumes nothing.
 use mathlib.Core.Path.{_≡_, refl, sym, ap, ap₂, _∙_, subst}
 use mathlib.Core.Logic.{_⊎_, inl, inr}
-use mathlib.Core.List.{List, [], _∷_, _++_, List·Memᴰ·head, List·Memᴰ·tail, List·Memᴰ·cases-cons, List·Memᴰ·not-nil, Memᴰ·append-left, Memᴰ·append-right, List·Memᴰ·append-cases, List·Memᴰ·eq-of-singleton, List·Permᴰ, List·Permᴰ·nil, List·Permᴰ·cons, List·Permᴰ·swap, List·Permᴰ·trans, Permᴰ·symm}
-use Prim.Native.Nat.{suc}
+use mathlib.Core.List.{List, map, [], _∷_, _++_, List·Memᴰ·head, List·Memᴰ·tail, List·Memᴰ·cases-cons, List·Memᴰ·not-nil, Memᴰ·append-left, Memᴰ·append-right, List·Memᴰ·append-cases, List·Memᴰ·eq-of-singleton, List·Permᴰ, List·Permᴰ·nil, List·Permᴰ·cons, List·Permᴰ·swap, List·Permᴰ·trans, Permᴰ·symm}
+use Prim.Native.Nat.{ℕ, zero, suc, _<_}
 use native.Mathlib.Omega.{arith}
-use lib.ListN.{length, length-append}
+use lib.ListN.{length, getD, length-append, length-map}
 use Rattle.sheet.specs.Listing.{_∈_}
 use Rattle.sheet.specs.Accepted.{Pairwise}
 
@@ -57,6 +57,26 @@ module _ {A : Type 0} (R : A → A → Type 0) where
   pairwise-at (z ∷ l) p {x} {y} (List·Memᴰ·head e) (List·Memᴰ·tail n) = inr (inl (subst (λ v. R v y) (sym e) (p .0 y n)))
   pairwise-at (z ∷ l) p {x} {y} (List·Memᴰ·tail m) (List·Memᴰ·head f) = inr (inr (subst (λ v. R v x) (sym f) (p .0 x m)))
   pairwise-at (z ∷ l) p (List·Memᴰ·tail m) (List·Memᴰ·tail n) = pairwise-at l (p .1) m n
+
+-- ---- by place
+
+module _ {A : Type 0} (d : A) where
+  pub mem-at : (l : List A) (i : ℕ) → i < length l → getD l i d ∈ l
+  mem-at [] i h = absurd (omega arith)
+  mem-at (x ∷ l) zero h = List·Memᴰ·head refl
+  mem-at (x ∷ l) (suc i) h = List·Memᴰ·tail (mem-at l i (omega arith))
+
+  pub at-mem : (l : List A) (a : A) → a ∈ l → (i : ℕ) × (i < length l) × (getD l i d ≡ a)
+  at-mem [] a m = absurd (List·Memᴰ·not-nil m)
+  at-mem (x ∷ l) a m = go (List·Memᴰ·cases-cons m) (at-mem l a)
+    where
+      go : (a ≡ x) ⊎ (a ∈ l) → (a ∈ l → (i : ℕ) × (i < length l) × (getD l i d ≡ a)) → (i : ℕ) × (i < length (x ∷ l)) × (getD (x ∷ l) i d ≡ a)
+      go (inl e) rec = (0, omega arith, sym e)
+      go (inr n) rec = let (i, h, e) = rec n in (suc i, omega arith, e)
+
+-- an array that is a field of a struct has as many elements as its type says
+pub sized : {A B : Type 0} (f : A → B) (l : List A) {n : ℕ} → length (map f l) ≡ n → length l ≡ n
+sized f l e = sym (length-map l f) ∙ e
 
 -- ---- another order
 

@@ -5,7 +5,8 @@ use Rattle.sheet.specs.Format.{TrackFits, WallFits}
 use Rattle.sheet.specs.HandedIn.{handedIn}
 use Rattle.sheet.specs.Returned.{verdict}
 use Rattle.plain_run.proofs.Outcome.{as-refused, as-accepted}
-use Rattle.plain_run.proofs.Prepared.{sized, each-in, handed-ready}
+use Rattle.sheet.proofs.Lists.{sized}
+use Rattle.plain_run.proofs.Prepared.{each-in, handed-ready}
 use borrow.Author.Needs.{needs}
 use Rattle.plain_run.proofs.plain_roll.Statement.{statement}
 use Rattle.plain_run.proofs.plain_roll.Tie as tie

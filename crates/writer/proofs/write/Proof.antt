@@ -6,7 +6,7 @@ use Prim.Native.Nat.{_≤_, _+_, _*_}
 use lib.ListN.{length}
 use Rattle.sheet.specs.Returned.{verdict, accepted}
 use Rattle.sheet.specs.HandedIn.{checkOf}
-use Rattle.encoding.proofs.Forms.{sized}
+use Rattle.sheet.proofs.Lists.{sized}
 use Rattle.writer.specs.Written.{formOf}
 use Rattle.writer.proofs.Counts.{few, needed}
 use Rattle.writer.proofs.Outcome.{as-checked, too-short, stored}
