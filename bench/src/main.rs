@@ -81,7 +81,7 @@ fn main() {
     }
     println!("plain run, microseconds: proved, the same algorithm in Rust, ratio; the outside sweep, ratio");
     for (ground, kind) in [(&WHOLE, "random"), (&BORDERS, "borders"), (&SMALL, "snapped")] {
-        for (tracks, walls) in [(16, 0), (64, 0), (256, 0), (64, 256), (256, 256)] {
+        for (tracks, walls) in [(16, 0), (64, 0), (256, 0), (16, 256), (64, 256), (256, 256)] {
             plain_row(&format!("{kind} {tracks} tracks {walls} walls"), &sheet(ground, tracks, walls, 7));
         }
     }
