@@ -45,11 +45,17 @@ fn least<T>(rounds: usize, mut call: impl FnMut() -> T) -> f64 {
     (0..rounds).map(once).fold(f64::INFINITY, f64::min)
 }
 
-fn order_row(name: &str, bytes: &[u8]) {
+/// What a sheet holds, which may be fewer records than were wanted.
+fn size_of(records: &Records) -> String {
+    format!("{} tracks {} walls", records.tracks.len(), records.walls.len())
+}
+
+fn order_row(bytes: &[u8]) {
     let mut ours = [0; FORM];
     let mut theirs = [0; FORM];
     let (number, length) = proved::order(bytes, &mut ours);
     let records = sheet::read(bytes).unwrap();
+    let name = size_of(&records);
     let written = sheet::write(&records.tracks, &records.walls, &mut theirs).unwrap();
     assert!(number == 0 && length == written as u64 && ours == theirs, "{name}: ordered forms differ");
     let a = least(200, || proved::order(black_box(bytes), &mut ours));
@@ -58,31 +64,32 @@ fn order_row(name: &str, bytes: &[u8]) {
         sheet::check(&records.tracks, &records.walls).unwrap();
         sheet::write(&records.tracks, &records.walls, &mut theirs)
     });
-    println!("{name:26} {a:10.1} {b:10.1} {:7.2}", a / b);
+    println!("{name:28} {a:10.1} {b:10.1} {:7.2}", a / b);
 }
 
-fn plain_row(name: &str, bytes: &[u8]) {
+fn plain_row(kind: &str, bytes: &[u8]) {
     let mut ours = [0; ROLL];
     let mut theirs = [0; ROLL];
     let (number, rows) = proved::plain(bytes, &mut ours);
     let records = sheet::read(bytes).unwrap();
+    let name = format!("{kind} {}", size_of(&records));
     selection::roll(&records, &mut theirs);
     assert!(number == 0 && rows == records.tracks.len() as u64 && ours == theirs, "{name}: rolls differ");
     let a = least(50, || proved::plain(black_box(bytes), &mut ours)) - least(50, || proved::check(black_box(bytes)));
     let b = least(50, || selection::roll(black_box(&records), &mut theirs));
     let c = least(20, || reference::roll::roll(black_box(&records)));
-    println!("{name:26} {a:10.1} {b:10.1} {:7.2} {c:10.1} {:7.2}", a / b, a / c);
+    println!("{name:28} {a:10.1} {b:10.1} {:7.2} {c:10.1} {:7.2}", a / b, a / c);
 }
 
 fn main() {
     println!("reading, checking and writing, microseconds: proved, outside, ratio");
     for (tracks, walls) in [(16, 16), (64, 64), (256, 256)] {
-        order_row(&format!("{tracks} tracks {walls} walls"), &sheet(&WHOLE, tracks, walls, 7));
+        order_row(&sheet(&WHOLE, tracks, walls, 7));
     }
     println!("plain run, microseconds: proved, the same algorithm in Rust, ratio; the outside sweep, ratio");
     for (ground, kind) in [(&WHOLE, "random"), (&BORDERS, "borders"), (&SMALL, "snapped")] {
         for (tracks, walls) in [(16, 0), (64, 0), (256, 0), (16, 256), (64, 256), (256, 256)] {
-            plain_row(&format!("{kind} {tracks} tracks {walls} walls"), &sheet(ground, tracks, walls, 7));
+            plain_row(kind, &sheet(ground, tracks, walls, 7));
         }
     }
 }
