@@ -1,8 +1,8 @@
-//! Links the proved static library, which `bench/run` builds first.
+//! Links the program with the proved static library, which `bench/run` builds first. The tests do without both.
 
 fn main() {
     let root = std::env::var("CARGO_MANIFEST_DIR").unwrap();
-    println!("cargo:rustc-link-search=native={root}/../target/staticlib");
-    println!("cargo:rustc-link-lib=static=exports");
-    println!("cargo:rerun-if-changed={root}/../target/staticlib/libexports.a");
+    let library = format!("{root}/../target/staticlib/libexports.a");
+    println!("cargo:rustc-link-arg-bins={library}");
+    println!("cargo:rerun-if-changed={library}");
 }

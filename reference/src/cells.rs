@@ -119,6 +119,11 @@ pub fn count(records: &Records, rows: &[Row], figure: u64) -> usize {
     traces(records, rows).map(|(track, end)| cells_of(track, end, figure).len()).sum()
 }
 
+/// The cells entered at each of the six figures.
+pub fn counts(records: &Records, rows: &[Row]) -> [usize; 6] {
+    FIGURES.map(|figure| count(records, rows, figure))
+}
+
 /// The ids of the tracks with a point in the cell.
 pub fn ids_in(records: &Records, rows: &[Row], figure: u64, cell: Cell) -> BTreeSet<u16> {
     let has_point = |(track, end): &(&Track, Fraction)| {

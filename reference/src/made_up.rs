@@ -1,7 +1,7 @@
 //! Made-up sheets from a seed: accepted ones, nearly accepted ones, and damaged ones.
 
 use crate::rng::Rng;
-use crate::sheet::{listing, Command, Records, Track, Wall, MAX_COORDINATE};
+use crate::sheet::{commands, listing, read, Command, Records, Track, Wall, MAX_COORDINATE};
 
 /// Where starts and wall ends are put: `count` lines each way, `step` apart. Few lines make
 /// meetings, shared lines and refusals 8 to 11 frequent.
@@ -189,6 +189,27 @@ pub fn large(rng: &mut Rng) -> Vec<u8> {
     listing(ground.accepted(rng, draws))
 }
 
+/// The commands of an accepted sheet of at least two, listed in another order.
+pub fn in_another_order(rng: &mut Rng, sheet: &[u8]) -> Option<Vec<u8>> {
+    let records = read(sheet).ok()?;
+    let mut shuffled: Vec<Command> = commands(&records.tracks, &records.walls).collect();
+    rng.shuffle(&mut shuffled);
+    if listing(shuffled.clone()) == sheet {
+        shuffled.reverse();
+    }
+    (shuffled.len() > 1).then(|| listing(shuffled))
+}
+
+/// Each sheet, an accepted one followed by another order of its commands.
+pub fn with_other_orders(seed: u64, sheets: Vec<Vec<u8>>) -> Vec<Vec<u8>> {
+    let mut rng = Rng::new(seed);
+    let with_other = |sheet: Vec<u8>| {
+        let other = in_another_order(&mut rng, &sheet);
+        [Some(sheet), other].into_iter().flatten()
+    };
+    sheets.into_iter().flat_map(with_other).collect()
+}
+
 /// All made-up sheets of one seed.
 pub fn all(seed: u64) -> Vec<Vec<u8>> {
     let mut rng = Rng::new(seed);
@@ -196,11 +217,11 @@ pub fn all(seed: u64) -> Vec<Vec<u8>> {
     let mut add = |count, make: fn(&mut Rng) -> Vec<u8>| {
         sheets.extend((0..count).map(|_| make(&mut rng)));
     };
-    add(1000, accepted);
-    add(700, nearly_accepted);
+    add(700, accepted);
+    add(500, nearly_accepted);
     add(500, doubtful);
-    add(700, provoked);
+    add(500, provoked);
     add(700, damaged);
-    add(24, large);
+    add(10, large);
     sheets
 }

@@ -1,6 +1,6 @@
 //! Cells against a second count: the cells of the points at and between all border crossings.
 
-use reference::cells::{cells_entered, cells_of, count, ids_in, listing, Cell, FIGURES};
+use reference::cells::{cells_entered, cells_of, count, counts, ids_in, listing, Cell, FIGURES};
 use reference::chosen::{self, document, track};
 use reference::fraction::Fraction;
 use reference::made_up;
@@ -121,6 +121,24 @@ fn cells_of_made_up_sheets() {
             check_cells(&read(&sheet::listing(commands)).expect("accepted"));
         }
     }
+}
+
+#[test]
+fn another_order_has_the_same_roll_and_cells() {
+    let mut rng = Rng::new(23);
+    let mut orders = 0;
+    for sheet in [chosen::all(), made_up::all(24)].concat() {
+        let Some(other) = made_up::in_another_order(&mut rng, &sheet) else { continue };
+        assert_ne!(other, sheet);
+        let answer = |bytes: &[u8]| {
+            let records = read(bytes).expect("accepted");
+            let rows = roll(&records);
+            (counts(&records, &rows), rows)
+        };
+        assert_eq!(answer(&other), answer(&sheet));
+        orders += 1;
+    }
+    assert!(orders > 2000);
 }
 
 #[test]

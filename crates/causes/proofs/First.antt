@@ -1,4 +1,4 @@
--- Which of two causes comes first. Main theorems: `not-later` and `later` (the code's test of two times), `first-left` and `first-right` (the first of two comes before both).
+-- Which of two causes comes first. Main theorems: `not-later` and `later` (the code's test of two times), `first-of` (the first of two comes before both).
 use mathlib.Core.Bool.{true, false}
 use mathlib.Core.Logic.{inl, inr}
 use mathlib.Core.Path.{_≡_, refl, sym, subst}
@@ -29,7 +29,7 @@ module _ {n d m e : ℕ} (p : Small n d) (q : Small m e) where
       let y : suc (pred e) ≡ e = omega arith in
       record { lt = rw (x, y) (leb-false (n * e) (m * d) h) }
 
-≼-self : (c : Cand) → c ≼ c
+pub ≼-self : (c : Cand) → c ≼ c
 ≼-self c = rule.in-id (≈ᵗ-refl (c .u)) refl (omega arith)
 
 module _ (S : Listing) (t : Track) {a b : Cause} (p : Stands S t a) (q : Stands S t b) where
@@ -50,3 +50,6 @@ module _ (S : Listing) (t : Track) {a b r : Cause} (p : Stands S t a) (q : Stand
   pub first-right : Least a b r → candOf S r ≼ candOf S b
   first-right (inl (e, h)) = subst (λ (z : Cause). candOf S z ≼ candOf S b) (sym e) (comes-below S t p q h)
   first-right (inr (e, h)) = subst (λ (z : Cause). candOf S z ≼ candOf S b) (sym e) (≼-self (candOf S b))
+
+  pub first-of : Least a b r → Stands S t r × (candOf S r ≼ candOf S a) × (candOf S r ≼ candOf S b)
+  first-of h = (first-stands h, first-left h, first-right h)

@@ -1,20 +1,19 @@
--- Looking at one cause more. Main theorems: `edge-first`, `wall-next`, `tip-next`.
+-- Looking at one cause more. Main theorems: `edge-first`, `wall-next`, `tip-next`, and `walls-then`, `then` (one look after another).
 use mathlib.Core.List.{List}
 use mathlib.Core.Logic.{_⊎_, inl, inr, _≢_}
 use mathlib.Core.Path.{_≡_, refl, sym, subst}
-use Prim.Native.Nat.{ℕ, zero, suc, _+_, _*_, _≤_, _<_}
+use Prim.Native.Nat.{ℕ, zero, suc, _+_, _*_, _<_}
 use native.Mathlib.Omega.{arith}
 use lib.ListN.{length, getD}
-use borrow.Author.Count.{below-more}
-use Rattle.exact.specs.Time.{Time, _≤ᵗ_, _<ᵗ_, _≈ᵗ_, fraction}
+use Rattle.exact.specs.Small.{Small}
+use Rattle.exact.specs.Time.{Time, _≤ᵗ_, _≈ᵗ_, fraction}
 use Rattle.exact.proofs.TimeOrder.{≈ᵗ-sym, ≈ᵗ→≤ᵗ, ≤ᵗ-trans, ≤ᵗ-<ᵗ-trans, ≈ᵗ-refl}
 use Rattle.sheet.specs.Accepted.{Accepted}
 use Rattle.sheet.specs.Listing.{Listing, _∈_}
-use Rattle.sheet.specs.HandedIn.{handedIn, noTrack, noWall}
-use Rattle.sheet.specs.declared.Sheet.{Sheet}
+use Rattle.sheet.specs.HandedIn.{noTrack, noWall}
 use Rattle.sheet.specs.declared.Track.{Track}
 use Rattle.sheet.specs.declared.Wall.{Wall}
-use Rattle.exact.specs.Small.{Small}
+use Rattle.sheet.proofs.Lists.{mem-at}
 use Rattle.rule.specs.declared.Row.{Row}
 use Rattle.rule.specs.Causes as rule
 use Rattle.rule.specs.Causes.{by-tip, by-side, by-rim, Below, _≼_, upTo}
@@ -27,13 +26,11 @@ use Rattle.rule.proofs.Known.{Beats}
 use Rattle.rule.proofs.Selection.{up-fresh}
 use Rattle.rule.proofs.Turn.{Live, beats-better, beats-none, beats-hit, beats-void}
 use Rattle.causes.specs.declared.Cause.{Cause}
-use Rattle.causes.specs.Cause.{tipAt, wallAt, whyOf, candOf, Stands, Least}
+use Rattle.causes.specs.Cause.{tipAt, wallAt, whyOf, candOf, Fine, Stands, Least}
 use Rattle.causes.specs.Offer.{AtEdge, wallCause, WallOffered, passed, struck, tipCause, TipOffered, itself, missed, void, met}
-use Rattle.causes.specs.Looked.{Ready, OfWalls, endAt, Ends, OfTracks}
+use Rattle.causes.specs.Looked.{endAt, Ends, FirstOfTracks}
 use Rattle.causes.proofs.Answers.{small-zero}
-use Rattle.sheet.proofs.Lists.{mem-at}
-use Rattle.causes.proofs.Places.{tracks-count, walls-count, track-read, wall-read, track-in}
-use Rattle.causes.proofs.First.{first-stands, first-left, first-right}
+use Rattle.causes.proofs.First.{≼-self, first-stands, first-left, first-right}
 
 -- a wall or the edge counts whatever has ended
 pub walls-live : (S : Listing) (done : List Row) (u s : Time) (k who : ℕ) → 0 < k → Live done u (whyOf S k who s)
@@ -42,25 +39,59 @@ walls-live S done u s zero who h = absurd (omega arith)
 walls-live S done u s (suc zero) who h = tt
 walls-live S done u s (suc (suc k)) who h = tt
 
+-- what holds of both holds of the first of them
+first-fine : {a b r : Cause} → Fine a → Fine b → Least a b r → Fine r
+first-fine p q (inl (e, h)) = subst Fine (sym e) p
+first-fine p q (inr (e, h)) = subst Fine (sym e) q
+
 -- ---- the edge
 
+pub record OfEdge (S : Listing) (a : Track) (c : Cause) : Type 0 where
+  pub stands : Stands S a c
+  pub at-rim : Below (candOf S c) (rim a) by-rim
+  pub no-track : 0 < c .class
+
 module _ (S : Listing) (a : Track) where
-  edge-stands : (u ud : ℕ) → Small u ud → fraction u ud ≡ rim a → OfWalls S a 0 (record { u = u; ud = ud; class = 2; id = 0; who = 0; s = 0; sd = 1 })
+  edge-stands : (u ud : ℕ) → Small u ud → fraction u ud ≡ rim a → OfEdge S a (record { u = u; ud = ud; class = 2; id = 0; who = 0; s = 0; sd = 1 })
   unfolding whyOf
   edge-stands u ud h e =
       record {
-        walls = record {
-          stands = record { fine = record { at = h; there = small-zero }; formal = e; ranked = refl; named = refl; known = λ z. absurd (omega arith); id-in = omega arith };
-          at-rim = rule.in-id (subst (λ (z : Time). fraction u ud ≈ᵗ z) e (≈ᵗ-refl (fraction u ud))) refl (omega arith);
-          at-walls = λ j l. absurd (omega arith);
-        };
+        stands = record { fine = record { at = h; there = small-zero }; formal = e; ranked = refl; named = refl; known = λ z. absurd (omega arith); id-in = omega arith };
+        at-rim = rule.in-id (subst (λ (z : Time). fraction u ud ≈ᵗ z) e (≈ᵗ-refl (fraction u ud))) refl (omega arith);
         no-track = omega arith;
       }
 
-  pub edge-first : {c : Cause} → AtEdge a c → OfWalls S a 0 c
-  edge-first e = subst (OfWalls S a 0) (sym (e .is)) (edge-stands (e .u) (e .ud) (e .small) (e .last))
+  pub edge-first : {c : Cause} → AtEdge a c → OfEdge S a c
+  edge-first e = subst (OfEdge S a) (sym (e .is)) (edge-stands (e .u) (e .ud) (e .small) (e .last))
 
 -- ---- walls
+
+-- r is the first of c and the walls that K names
+pub record FirstOfSomeWalls (S : Listing) (a : Track) (K : ℕ → Type 0) (c r : Cause) : Type 0 where
+  pub stands : Stands S a r
+  pub first : candOf S r ≼ candOf S c
+  pub no-track : 0 < c .class → 0 < r .class
+  pub at-walls : (j : ℕ) → j < length (S .walls) → K j → (u : Time) → wallTime a (wallAt S j) ≡ when u → Below (candOf S r) u (by-side (wallAt S j))
+
+module _ {S : Listing} {a : Track} {K : ℕ → Type 0} where
+  pub walls-then : {K′ : ℕ → Type 0} {c d r : Cause} → FirstOfSomeWalls S a K c d → FirstOfSomeWalls S a K′ d r → FirstOfSomeWalls S a (λ (j : ℕ). K j ⊎ K′ j) c r
+  walls-then {K′} {c} {d} {r} p q =
+      record {
+        stands = q .stands;
+        first = cand-trans (candOf S r) (candOf S d) (candOf S c) (q .first) (p .first);
+        no-track = λ h. q .no-track (p .no-track h);
+        at-walls = go;
+      }
+    where
+      go : (j : ℕ) → j < length (S .walls) → K j ⊎ K′ j → (u : Time) → wallTime a (wallAt S j) ≡ when u → Below (candOf S r) u (by-side (wallAt S j))
+      go j l (inl k) u e = cand-trans (candOf S r) (candOf S d) (record { u = u; why = by-side (wallAt S j) }) (q .first) (p .at-walls j l k u e)
+      go j l (inr k) u e = q .at-walls j l k u e
+
+  pub walls-fewer : {K′ : ℕ → Type 0} {c r : Cause} → ((j : ℕ) → K′ j → K j) → FirstOfSomeWalls S a K c r → FirstOfSomeWalls S a K′ c r
+  walls-fewer f p = record { stands = p .stands; first = p .first; no-track = p .no-track; at-walls = λ j l k. p .at-walls j l (f j k) }
+
+  pub walls-none : {c : Cause} → ((j : ℕ) → K j → ⊥) → Stands S a c → FirstOfSomeWalls S a K c c
+  walls-none {c} f s = record { stands = s; first = ≼-self (candOf S c); no-track = λ h. h; at-walls = λ j l k. absurd (f j k) }
 
 module _ (S : Listing) (acc : Accepted S) (a : Track) (k : ℕ) (in-walls : k < length (S .walls)) where
   wall-stands : (u ud : ℕ) → Small u ud → wallTime a (wallAt S k) ≡ when (fraction u ud) → Stands S a (wallCause (wallAt S k) k u ud)
@@ -75,57 +106,62 @@ module _ (S : Listing) (acc : Accepted S) (a : Track) (k : ℕ) (in-walls : k < 
         id-in = acc .walls-ok (wallAt S k) (mem-at noWall (S .walls) k in-walls) .id-in;
       }
 
-  abbrev Behind : Cause → ℕ → Type 0
-  Behind c j = (u : Time) → wallTime a (wallAt S j) ≡ when u → Below (candOf S c) u (by-side (wallAt S j))
-
-  wall-none : {c : Cause} → wallTime a (wallAt S k) ≡ never → OfWalls S a k c → OfWalls S a (k + 1) c
-  wall-none {c} e o =
-      record {
-        walls = record {
-          stands = o .walls .stands;
-          at-rim = o .walls .at-rim;
-          at-walls = below-more (Behind c) k (o .walls .at-walls) (λ u f. absurd (let z : _≡_ {A = ℕ} 0 1 = cc in omega arith));
-        };
-        no-track = o .no-track;
-      }
-
-  wall-hit : {c r : Cause} (u ud : ℕ) → wallTime a (wallAt S k) ≡ when (fraction u ud) → Small u ud → Least c (wallCause (wallAt S k) k u ud) r → OfWalls S a k c → OfWalls S a (k + 1) r
+  wall-hit : {c r : Cause} (u ud : ℕ) → Stands S a c → wallTime a (wallAt S k) ≡ when (fraction u ud) → Small u ud → Least c (wallCause (wallAt S k) k u ud) r → FirstOfSomeWalls S a (λ (j : ℕ). j ≡ k) c r
   unfolding whyOf
-  wall-hit {c} {r} u ud e h l o =
+  wall-hit {c} {r} u ud s e h l =
       let w = wall-stands u ud h e in
-      let s = o .walls .stands in
-      let left : candOf S r ≼ candOf S c = first-left S a s w l in
       let right : Below (candOf S r) (fraction u ud) (by-side (wallAt S k)) = first-right S a s w l in
       record {
-        walls = record {
-          stands = first-stands S a s w l;
-          at-rim = cand-trans (candOf S r) (candOf S c) (record { u = rim a; why = by-rim }) left (o .walls .at-rim);
-          at-walls = below-more (Behind r) k
-              (λ j i v f. cand-trans (candOf S r) (candOf S c) (record { u = v; why = by-side (wallAt S j) }) left (o .walls .at-walls j i v f))
-              (λ v f. let p : fraction u ud ≡ v = cc in subst (λ (z : Time). Below (candOf S r) z (by-side (wallAt S k))) p right);
-        };
+        stands = first-stands S a s w l;
+        first = first-left S a s w l;
         no-track = go l;
+        at-walls = λ j i m v f.
+            subst (λ (i : ℕ). wallTime a (wallAt S i) ≡ when v → Below (candOf S r) v (by-side (wallAt S i))) (sym m)
+            (λ g. let p : fraction u ud ≡ v = cc in subst (λ (z : Time). Below (candOf S r) z (by-side (wallAt S k))) p right) f;
       }
     where
-      go : Least c (wallCause (wallAt S k) k u ud) r → 0 < r .class
-      go (inl (x, y)) = subst (λ (z : Cause). 0 < z .class) (sym x) (o .no-track)
-      go (inr (x, y)) = subst (λ (z : Cause). 0 < z .class) (sym x) (omega arith)
+      go : Least c (wallCause (wallAt S k) k u ud) r → 0 < c .class → 0 < r .class
+      go (inl (x, y)) z = subst (λ (z : Cause). 0 < z .class) (sym x) z
+      go (inr (x, y)) z = subst (λ (z : Cause). 0 < z .class) (sym x) (omega arith)
 
-  pub wall-next : {c r : Cause} → WallOffered a (wallAt S k) k c r → OfWalls S a k c → OfWalls S a (k + 1) r
-  wall-next (passed e x) o = subst (OfWalls S a (k + 1)) (sym x) (wall-none e o)
-  wall-next (struck u ud e h l) o = wall-hit u ud e h l o
+  wall-none : {c : Cause} → Stands S a c → wallTime a (wallAt S k) ≡ never → FirstOfSomeWalls S a (λ (j : ℕ). j ≡ k) c c
+  wall-none {c} s e =
+      record {
+        stands = s;
+        first = ≼-self (candOf S c);
+        no-track = λ h. h;
+        at-walls = λ j i m v f.
+            subst (λ (i : ℕ). wallTime a (wallAt S i) ≡ when v → Below (candOf S c) v (by-side (wallAt S i))) (sym m)
+            (λ g. absurd (let z : _≡_ {A = ℕ} 0 1 = cc in omega arith)) f;
+      }
+
+  pub wall-next : {c r : Cause} → Stands S a c → WallOffered a (wallAt S k) k c r → FirstOfSomeWalls S a (λ (j : ℕ). j ≡ k) c r
+  wall-next {c} s (passed e x) = subst (FirstOfSomeWalls S a (λ (j : ℕ). j ≡ k) c) (sym x) (wall-none s e)
+  wall-next s (struck u ud e h l) = wall-hit u ud s e h l
 
 -- ---- tracks
 
--- the walls are all looked at
-pub walls-first : (S : Listing) (table over : List ℕ) (a : Track) {c : Cause} → OfWalls S a (length (S .walls)) c → OfTracks S table over a 0 c
-walls-first S table over a {c} o =
-    record {
-      walls = o .walls;
-      tips = λ done e. record { live = walls-live S done (fraction (c .u) (c .ud)) (fraction (c .s) (c .sd)) (c .class) (c .who) (o .no-track); at-tips = λ j l. absurd (omega arith) };
-    }
+module _ {S : Listing} {done : List Row} {a : Track} {K : ℕ → Type 0} where
+  pub then : {K′ : ℕ → Type 0} {c d r : Cause} → FirstOfTracks S done a K c d → FirstOfTracks S done a K′ d r → FirstOfTracks S done a (λ (j : ℕ). K j ⊎ K′ j) c r
+  then {K′} {c} {d} {r} p q =
+      record {
+        stands = q .stands;
+        first = cand-trans (candOf S r) (candOf S d) (candOf S c) (q .first) (p .first);
+        live = λ h. q .live (p .live h);
+        at-tips = go;
+      }
+    where
+      go : (j : ℕ) → j < length (S .tracks) → K j ⊎ K′ j → tipAt S j .id ≢ a .id → Beats done (candOf S r) a (tipAt S j)
+      go j l (inl k) n = beats-better (q .first) (p .at-tips j l k n)
+      go j l (inr k) n = q .at-tips j l k n
 
-module _ (S : Listing) (acc : Accepted S) (table over : List ℕ) (a : Track) (here : a ∈ S .tracks) (k : ℕ) (in-tracks : k < length (S .tracks)) where
+  pub fewer : {K′ : ℕ → Type 0} {c r : Cause} → ((j : ℕ) → K′ j → K j) → FirstOfTracks S done a K c r → FirstOfTracks S done a K′ c r
+  fewer f p = record { stands = p .stands; first = p .first; live = p .live; at-tips = λ j l k. p .at-tips j l (f j k) }
+
+  pub none : {c : Cause} → ((j : ℕ) → K j → ⊥) → Stands S a c → FirstOfTracks S done a K c c
+  none {c} f s = record { stands = s; first = ≼-self (candOf S c); live = λ h. h; at-tips = λ j l k. absurd (f j k) }
+
+module _ (S : Listing) (acc : Accepted S) (a : Track) (here : a ∈ S .tracks) (k : ℕ) (in-tracks : k < length (S .tracks)) where
   abbrev b : Track
   b = tipAt S k
 
@@ -144,73 +180,54 @@ module _ (S : Listing) (acc : Accepted S) (table over : List ℕ) (a : Track) (h
         id-in = acc .tracks-ok b there .id-in;
       }
 
-  abbrev BehindTip : List Row → Cause → ℕ → Type 0
-  BehindTip done c j = tipAt S j .id ≢ a .id → Beats done (candOf S c) a (tipAt S j)
+  module _ (table over : List ℕ) (done : List Row) (ends : Ends S table over done) where
+    -- nothing more to beat
+    tip-skip : {c : Cause} → Stands S a c → (b .id ≢ a .id → Beats done (candOf S c) a b) → FirstOfTracks S done a (λ (j : ℕ). j ≡ k) c c
+    tip-skip {c} s f =
+        record {
+          stands = s;
+          first = ≼-self (candOf S c);
+          live = λ h. h;
+          at-tips = λ j i m. subst (λ (i : ℕ). tipAt S i .id ≢ a .id → Beats done (candOf S c) a (tipAt S i)) (sym m) f;
+        }
 
-  -- nothing more to beat
-  tip-skip : {c : Cause} → ((done : List Row) → Ends S table over done → b .id ≢ a .id → Beats done (candOf S c) a b) → OfTracks S table over a k c → OfTracks S table over a (k + 1) c
-  tip-skip {c} f o =
-      record {
-        walls = o .walls;
-        tips = λ done e. record { live = o .tips done e .live; at-tips = below-more (BehindTip done c) k (o .tips done e .at-tips) (f done e) };
-      }
+    -- its own end, against the time at which the tip at k was there
+    tip-live : (u s : Time) → b .id ≢ a .id → contact a b ≡ hit u s → (getD over k 0 ≡ 0) ⊎ ((getD over k 0 ≡ 0 → ⊥) × (s ≤ᵗ endAt table k)) → s ≤ᵗ upTo done u (b .id)
+    tip-live u s n h (inl x) =
+        subst (λ (z : Time). s ≤ᵗ z) (sym (up-fresh u done b (ends .running k in-tracks x))) (contact-hit (contact a b) (contact-of acc here b there n) h .1)
+    tip-live u s n h (inr (x, y)) = ≤ᵗ-trans y (≈ᵗ→≤ᵗ (≈ᵗ-sym (ends .ended k in-tracks x .stops u)))
 
-  -- its own end, against the time at which the tip at k was there
-  tip-live : (done : List Row) → Ends S table over done → (u s : Time) → b .id ≢ a .id → contact a b ≡ hit u s → (getD over k 0 ≡ 0) ⊎ ((getD over k 0 ≡ 0 → ⊥) × (s ≤ᵗ endAt table k)) → s ≤ᵗ upTo done u (b .id)
-  tip-live done e u s n h (inl x) =
-      subst (λ (z : Time). s ≤ᵗ z) (sym (up-fresh u done b (e .running k in-tracks x))) (contact-hit (contact a b) (contact-of acc here b there n) h .1)
-  tip-live done e u s n h (inr (x, y)) = ≤ᵗ-trans y (≈ᵗ→≤ᵗ (≈ᵗ-sym (e .ended k in-tracks x .stops u)))
-
-  tip-hit : {c r : Cause} (u ud s sd : ℕ) → b .id ≢ a .id → contact a b ≡ hit (fraction u ud) (fraction s sd) → (getD over k 0 ≡ 0) ⊎ ((getD over k 0 ≡ 0 → ⊥) × (fraction s sd ≤ᵗ endAt table k)) → Small u ud → Small s sd →
-      Least c (tipCause b k u ud s sd) r → OfTracks S table over a k c → OfTracks S table over a (k + 1) r
-  unfolding whyOf
-  tip-hit {c} {r} u ud s sd n e q h g l o =
-      let w = tip-stands u ud s sd n h g e in
-      let p = o .walls .stands in
-      let left : candOf S r ≼ candOf S c = first-left S a p w l in
-      let right : Below (candOf S r) (fraction u ud) (by-tip b (fraction s sd)) = first-right S a p w l in
-      record {
-        walls = record {
+    tip-hit : {c r : Cause} (u ud s sd : ℕ) → Stands S a c → b .id ≢ a .id → contact a b ≡ hit (fraction u ud) (fraction s sd) → (getD over k 0 ≡ 0) ⊎ ((getD over k 0 ≡ 0 → ⊥) × (fraction s sd ≤ᵗ endAt table k)) → Small u ud → Small s sd →
+        Least c (tipCause b k u ud s sd) r → FirstOfTracks S done a (λ (j : ℕ). j ≡ k) c r
+    unfolding whyOf
+    tip-hit {c} {r} u ud s sd p n e q h g l =
+        let w = tip-stands u ud s sd n h g e in
+        let right : Below (candOf S r) (fraction u ud) (by-tip b (fraction s sd)) = first-right S a p w l in
+        record {
           stands = first-stands S a p w l;
-          at-rim = cand-trans (candOf S r) (candOf S c) (record { u = rim a; why = by-rim }) left (o .walls .at-rim);
-          at-walls = λ j i v f. cand-trans (candOf S r) (candOf S c) (record { u = v; why = by-side (wallAt S j) }) left (o .walls .at-walls j i v f);
-        };
-        tips = λ done x. record {
-          live = go done (o .tips done x .live) (tip-live done x (fraction u ud) (fraction s sd) n e q) l;
-          at-tips = below-more (BehindTip done r) k (λ j i y. beats-better left (o .tips done x .at-tips j i y)) (λ y. beats-hit (fraction u ud) (fraction s sd) e right);
-        };
-      }
-    where
-      go : (done : List Row) → Live done (candOf S c .u) (candOf S c .why) → fraction s sd ≤ᵗ upTo done (fraction u ud) (b .id) → Least c (tipCause b k u ud s sd) r → Live done (candOf S r .u) (candOf S r .why)
-      go done y z (inl (x, _)) = subst (λ (z : Cause). Live done (candOf S z .u) (candOf S z .why)) (sym x) y
-      go done y z (inr (x, _)) = subst (λ (z : Cause). Live done (candOf S z .u) (candOf S z .why)) (sym x) z
+          first = first-left S a p w l;
+          live = λ y. go y (tip-live (fraction u ud) (fraction s sd) n e q) l;
+          at-tips = λ j i m. subst (λ (i : ℕ). tipAt S i .id ≢ a .id → Beats done (candOf S r) a (tipAt S i)) (sym m) (λ y. beats-hit (fraction u ud) (fraction s sd) e right);
+        }
+      where
+        go : Live done (candOf S c .u) (candOf S c .why) → fraction s sd ≤ᵗ upTo done (fraction u ud) (b .id) → Least c (tipCause b k u ud s sd) r → Live done (candOf S r .u) (candOf S r .why)
+        go y z (inl (x, _)) = subst (λ (z : Cause). Live done (candOf S z .u) (candOf S z .why)) (sym x) y
+        go y z (inr (x, _)) = subst (λ (z : Cause). Live done (candOf S z .u) (candOf S z .why)) (sym x) z
 
-  pub tip-next : {c r : Cause} → TipOffered a b k (getD over k 0) (getD table (7 * k) 0) (getD table (7 * k + 1) 0) c r → OfTracks S table over a k c → OfTracks S table over a (k + 1) r
-  tip-next (itself e x) o = subst (OfTracks S table over a (k + 1)) (sym x) (tip-skip (λ done f n. absurd (n e)) o)
-  tip-next (missed e x) o = subst (OfTracks S table over a (k + 1)) (sym x) (tip-skip (λ done f n. beats-none e) o)
-  tip-next (void u s e n h x) o = subst (OfTracks S table over a (k + 1)) (sym x) (tip-skip (λ done f y. beats-void u s e (≤ᵗ-<ᵗ-trans (≈ᵗ→≤ᵗ (f .ended k in-tracks n .stops u)) h)) o)
-  tip-next (met u ud s sd n e q h g l) o = tip-hit u ud s sd n e q h g l o
+    pub tip-next : {c r : Cause} → Stands S a c → TipOffered a b k (getD over k 0) (getD table (7 * k) 0) (getD table (7 * k + 1) 0) c r → FirstOfTracks S done a (λ (j : ℕ). j ≡ k) c r
+    tip-next {c} s (itself e x) = subst (FirstOfTracks S done a (λ (j : ℕ). j ≡ k) c) (sym x) (tip-skip s (λ n. absurd (n e)))
+    tip-next {c} s (missed e x) = subst (FirstOfTracks S done a (λ (j : ℕ). j ≡ k) c) (sym x) (tip-skip s (λ n. beats-none e))
+    tip-next {c} s (void u v e n h x) = subst (FirstOfTracks S done a (λ (j : ℕ). j ≡ k) c) (sym x) (tip-skip s (λ y. beats-void u v e (≤ᵗ-<ᵗ-trans (≈ᵗ→≤ᵗ (ends .ended k in-tracks n .stops u)) h)))
+    tip-next s (met u ud v vd n e q h g l) = tip-hit u ud v vd s n e q h g l
 
--- ---- the same as the code's arrays have it
+-- ---- numbers of times, whatever the sheet
 
-module _ {s : Sheet} (r : Ready s) (i : ℕ) (h : i < s .ntracks) where
-  abbrev S : Listing
-  S = handedIn s
+pub wall-fine : {a : Track} {w : Wall} {k : ℕ} {c r : Cause} → Fine c → WallOffered a w k c r → Fine r
+wall-fine p (passed e x) = subst Fine (sym x) p
+wall-fine p (struck u ud e h l) = first-fine p (record { at = h; there = small-zero }) l
 
-  pub edge-turn : {c : Cause} → AtEdge (getD (s .tracks) i noTrack) c → OfWalls S (tipAt S i) 0 c
-  edge-turn {c} e = edge-first S (tipAt S i) (subst (λ (z : Track). AtEdge z c) (sym (track-read r i h)) e)
-
-  pub wall-turn : (k : ℕ) → k < s .nwalls → {c d : Cause} → WallOffered (getD (s .tracks) i noTrack) (getD (s .walls) k noWall) k c d → OfWalls S (tipAt S i) k c → OfWalls S (tipAt S i) (k + 1) d
-  wall-turn k g {c} {d} o =
-      wall-next S (r .accepted) (tipAt S i) k (omega (arith, walls-count r))
-      (subst (λ (z : Track). WallOffered z (wallAt S k) k c d) (sym (track-read r i h)) (subst (λ (z : Wall). WallOffered (getD (s .tracks) i noTrack) z k c d) (sym (wall-read r k g)) o))
-
-  pub tips-start : (table over : List ℕ) {c : Cause} → OfWalls S (tipAt S i) (s .nwalls) c → OfTracks S table over (tipAt S i) 0 c
-  tips-start table over {c} o = walls-first S table over (tipAt S i) (subst (λ (n : ℕ). OfWalls S (tipAt S i) n c) (sym (walls-count r)) o)
-
-  pub tip-turn : (table over : List ℕ) (k : ℕ) → k < s .ntracks → {c d : Cause} → TipOffered (getD (s .tracks) i noTrack) (getD (s .tracks) k noTrack) k (getD over k 0) (getD table (7 * k) 0) (getD table (7 * k + 1) 0) c d →
-      OfTracks S table over (tipAt S i) k c → OfTracks S table over (tipAt S i) (k + 1) d
-  tip-turn table over k g {c} {d} o =
-      tip-next S (r .accepted) table over (tipAt S i) (track-in r i h) k (omega (arith, tracks-count r))
-      (subst (λ (z : Track). TipOffered z (tipAt S k) k (getD over k 0) (getD table (7 * k) 0) (getD table (7 * k + 1) 0) c d) (sym (track-read r i h))
-      (subst (λ (z : Track). TipOffered (getD (s .tracks) i noTrack) z k (getD over k 0) (getD table (7 * k) 0) (getD table (7 * k + 1) 0) c d) (sym (track-read r k g)) o))
+pub tip-fine : {a b : Track} {k ended n d : ℕ} {c r : Cause} → Fine c → TipOffered a b k ended n d c r → Fine r
+tip-fine p (itself e x) = subst Fine (sym x) p
+tip-fine p (missed e x) = subst Fine (sym x) p
+tip-fine p (void u s e n h x) = subst Fine (sym x) p
+tip-fine p (met u ud s sd n e q h g l) = first-fine p (record { at = h; there = g }) l

@@ -1,18 +1,16 @@
 // The causes that end a tip, and which of them comes first (document 01, "The rule of ending").
 ghost use mathlib.Core.Path.{_≡_};
-ghost use mathlib.Core.List.{List};
-ghost use Prim.Native.Nat.{_<_};
+ghost use mathlib.Core.Bool.{true, false};
+ghost use Prim.Native.Nat.{_+_, _≤_, _<_};
 ghost use lib.ListN.{length};
 ghost use Rattle.sheet.specs.Accepted.{TrackOk, WallOk};
-ghost use Rattle.sheet.specs.HandedIn.{handedIn};
 ghost use Rattle.exact.specs.Small.{Small};
-ghost use Rattle.rule.specs.declared.Row.{Row};
-ghost use Rattle.causes.specs.Cause.{Fine, Least, tipAt};
+ghost use Rattle.lines.specs.Lines.{Tracked, Walled};
+ghost use Rattle.causes.specs.Cause.{Fine, Least};
 ghost use Rattle.causes.specs.Offer.{AtEdge, WallOffered, TipOffered};
-ghost use Rattle.causes.specs.Looked.{Ready, OfWalls, OfTracks, Ends, Tables};
+ghost use Rattle.causes.specs.Looked.{Reaches, WallsLooked, TracksLooked, Tables};
 use contact::Moment;
 use contact::Touch;
-use sheet::Sheet;
 use sheet::Track;
 use sheet::Wall;
 
@@ -52,7 +50,7 @@ pub fn least(a: Cause, b: Cause) -> Cause
 }
 
 // The edge, which every tip has for a cause.
-fn edge_cause(a: Track) -> Cause
+pub fn edge_cause(a: Track) -> Cause
     requires { ⌜ TrackOk a ⌝ }
     ensures { λ r. ⌜ AtEdge a r ⌝ }
 {
@@ -105,7 +103,7 @@ fn with_wall(c: Cause, a: Track, w: Wall, k: usize) -> Cause
 }
 
 // The first of c and the track b, the sheet's k-th, unless its tip ended, at e / ed, before it was there.
-fn with_track(c: Cause, a: Track, b: Track, k: usize, ended: u64, e: u64, ed: u64) -> Cause
+pub fn with_track(c: Cause, a: Track, b: Track, k: usize, ended: u64, e: u64, ed: u64) -> Cause
     requires { ⌜ Fine c × TrackOk a × TrackOk b × ((ended ≡ 0 → ⊥) → Small e ed) ⌝ }
     ensures { λ r. ⌜ TipOffered a b k ended e ed c r ⌝ }
 {
@@ -150,37 +148,67 @@ fn with_track(c: Cause, a: Track, b: Track, k: usize, ended: u64, e: u64, ed: u6
     }
 }
 
-// The first of the edge and all walls for the tip at i.
-pub fn look_walls(sheet: Sheet, i: usize) -> Cause
-    requires { ⌜ Ready sheet × (i < sheet .ntracks) ⌝ }
-    ensures { λ r. ⌜ OfWalls (handedIn sheet) (tipAt (handedIn sheet) i) (sheet .nwalls) r ⌝ }
+// A part of the sheet: left ≤ x < right, low ≤ y < high.
+pub struct Region {
+    pub left: u64,
+    pub right: u64,
+    pub low: u64,
+    pub high: u64,
+}
+
+// Does the box of two ends come between low and high?
+fn reaches(a: u16, b: u16, low: u64, high: u64) -> bool
+    ensures { λ r. ⌜ (r ≡ true → Reaches a b low high) × (r ≡ false → Reaches a b low high → ⊥) ⌝ }
 {
-    let a = sheet.tracks[i];
-    let n = sheet.nwalls;
-    let mut c = edge_cause(a);
+    let a = a as u64;
+    let b = b as u64;
+    ((a < high) | (b < high)) & ((low <= a) | (low <= b))
+}
+
+// The first of c and the walls whose box comes to the part p.
+pub fn look_walls(walls: &[u16], m: usize, a: Track, p: Region, c: Cause) -> Cause
+    requires { ⌜ Walled (now walls) m × TrackOk a × Fine c ⌝ }
+    ensures { λ r. ⌜ WallsLooked (now (walls .entry)) m a p c r ⌝ }
+{
+    let mut c = c;
     let mut k: usize = 0;
-    while k < n {
-        let w = sheet.walls[k];
-        c = with_wall(c, a, w, k);
+    while k < m {
+        let w = lines::wall_at(walls, k);
+        if reaches(w.ax, w.bx, p.left, p.right) {
+            if reaches(w.ay, w.by, p.low, p.high) {
+                c = with_wall(c, a, w, k);
+            }
+        }
         k += 1;
     }
     c
 }
 
-// The first of `start`, the tip's first wall or the edge, and all tracks, for the tip at i. over[k] is 0 while the tip at k runs, and
+// The first of c and the tracks k with a flag at known[at + k], for the tip at i. over[k] is 0 while the tip at k runs, and
 // table[7 k] / table[7 k + 1] is the time at which it ended.
-pub fn look_tracks(sheet: Sheet, i: usize, start: Cause, table: &[u64], over: &[u64]) -> Cause
-    requires { ⌜ Ready sheet × (i < sheet .ntracks) × OfWalls (handedIn sheet) (tipAt (handedIn sheet) i) (sheet .nwalls) start × Tables (sheet .ntracks) (now table) (now over) ⌝ }
-    ensures { λ r. ⌜ OfTracks (handedIn sheet) (now (table .entry)) (now (over .entry)) (tipAt (handedIn sheet) i) (sheet .ntracks) r ⌝ }
+pub fn look_tracks(
+    starts: &[u16],
+    speeds: &[u8],
+    n: usize,
+    i: usize,
+    c: Cause,
+    table: &[u64],
+    over: &[u64],
+    known: &[u8],
+    at: usize,
+) -> Cause
+    requires { ⌜ Tracked (now starts) (now speeds) n × (i < n) × Fine c × Tables n (now table) (now over) × (at + n ≤ length (now known)) ⌝ }
+    ensures { λ r. ⌜ TracksLooked (now (starts .entry)) (now (speeds .entry)) n i (now (table .entry)) (now (over .entry)) (now (known .entry)) at c r ⌝ }
 {
-    let a = sheet.tracks[i];
-    let n = sheet.ntracks;
-    let mut c = start;
+    let a = lines::track_at(starts, speeds, i);
+    let mut c = c;
     let mut k: usize = 0;
     while k < n {
-        let b = sheet.tracks[k];
-        let at = 7 * k;
-        c = with_track(c, a, b, k, over[k], table[at], table[at + 1]);
+        if known[at + k] != 0 {
+            let b = lines::track_at(starts, speeds, k);
+            let p = 7 * k;
+            c = with_track(c, a, b, k, over[k], table[p], table[p + 1]);
+        }
         k += 1;
     }
     c

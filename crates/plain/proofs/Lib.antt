@@ -1,5 +1,5 @@
 pub mod Keys
-pub mod Tables
+pub mod Based
 pub mod LookingAgain
 pub mod Beginning
 pub mod Turning

@@ -3,10 +3,8 @@ use mathlib.Core.Path.{_≡_}
 use mathlib.Core.Logic.{_⊎_}
 use mathlib.Core.List.{List}
 use Prim.Native.Nat.{ℕ, _+_, _*_, _≤_, _<_}
-use lib.ListN.{getD}
+use lib.ListN.{length, getD}
 use Rattle.exact.specs.Time.{_<ᵗ_, _≈ᵗ_, fraction}
-use Rattle.sheet.specs.declared.Sheet.{Sheet}
-use Rattle.sheet.specs.HandedIn.{noTrack}
 use Rattle.exact.specs.Small.{Small}
 use Rattle.plain.specs.declared.Key.{Key}
 
@@ -24,10 +22,18 @@ abbrev pub Soonest : Key → Key → Key → Type 0
 Soonest a b r = ((r ≡ a) × Ahead a b) ⊎ ((r ≡ b) × Ahead b a)
 
 -- the key of the tip at i
-abbrev pub keyAt : Sheet → List ℕ → List ℕ → ℕ → Key
-keyAt s table over i = record { over = getD over i 0; u = getD table (7 * i) 0; ud = getD table (7 * i + 1) 0; id = getD (s .tracks) i noTrack .id; at = i }
+abbrev pub keyAt : List ℕ → List ℕ → List ℕ → ℕ → Key
+keyAt starts table over i = record { over = getD over i 0; u = getD table (7 * i) 0; ud = getD table (7 * i + 1) 0; id = getD starts (3 * i) 0; at = i }
 
--- the tip at r is ahead of the first k
-pub record Picked (s : Sheet) (table over : List ℕ) (k r : ℕ) : Type 0 where
-  pub place : r < s .ntracks
-  pub ahead : (j : ℕ) → j < k → Ahead (keyAt s table over r) (keyAt s table over j)
+-- there is a key for each of n tips
+pub record Keyed (starts : List ℕ) (n : ℕ) (table over : List ℕ) : Type 0 where
+  pub few : n ≤ 256
+  pub starts-long : length starts ≡ 768
+  pub table-long : length table ≡ 3584
+  pub over-long : length over ≡ 256
+  pub times : (k : ℕ) → k < n → Small (getD table (7 * k) 0) (getD table (7 * k + 1) 0)
+
+-- the tip at r, of n, is ahead of the first k
+pub record Picked (starts : List ℕ) (n : ℕ) (table over : List ℕ) (k r : ℕ) : Type 0 where
+  pub place : r < n
+  pub ahead : (j : ℕ) → j < k → Ahead (keyAt starts table over r) (keyAt starts table over j)

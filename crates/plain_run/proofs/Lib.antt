@@ -1,3 +1,4 @@
 pub mod Outcome
 pub mod Prepared
 pub mod TheRoll
+pub mod Verdicts

@@ -1,18 +1,18 @@
 -- What the plain run returns and leaves, in each of its endings.
 use Prim.Native.Nat.{ℕ, _*_, _≤_, _<_}
 use mathlib.Core.Path.{_≡_, refl, sym, ap, subst}
-use mathlib.Core.List.{List}
+use mathlib.Core.List.{List, [], _∷_, _++_}
 use native.Mathlib.Omega.{arith}
 use borrow.Author.Tests.{lt-ltb, le-ltb}
-use lib.ListN.{length}
+use lib.ListN.{length, length-append}
+use lib.Seq.{length-take-le}
 use Rattle.sheet.specs.Listing.{Listing}
 use Rattle.sheet.specs.Returned.{Returned, accepted, gives, refused}
-use Rattle.sheet.specs.HandedIn.{handedIn}
+use Rattle.sheet.specs.HandedIn.{handedIn, noTrack}
 use Rattle.sheet.specs.declared.Sheet.{Sheet}
 use Rattle.rule.specs.Selection.{rollOf}
 use Rattle.row.specs.Written.{Written}
-use Rattle.causes.specs.Looked.{Ready}
-use Rattle.causes.proofs.Places.{tracks-count}
+use Rattle.lines.specs.Lines.{Handed}
 use Rattle.rule.proofs.Existence.{roll-length}
 use Rattle.plain_run.specs.declared.Rolled.{Rolled}
 use Rattle.plain_run.specs.declared.Rolled.the-variants.{Rows, Refused}
@@ -32,18 +32,21 @@ module _ (S : Listing) (before : List ℕ) where
 pub of-same : {S T : Listing} {v : Returned} {before exit : List ℕ} {r : Rolled} → S ≡ T → Rolls v S before exit r → Rolls v T before exit r
 of-same {v = v} {before} {exit} {r} e h = subst (λ (z : Listing). Rolls v z before exit r) e h
 
-module _ {s : Sheet} (r : Ready s) (before : List ℕ) where
+module _ {s : Sheet} (r : Handed s) (before : List ℕ) where
+  tracks-count : length (handedIn s .tracks) ≡ s .ntracks
+  tracks-count = length-take-le (s .ntracks) (s .tracks ++ (noTrack ∷ [])) (simp length-append (omega (arith, r .tracks-long, r .tracks-in)))
+
   pub too-short : length before < 29 * s .ntracks → Rolls accepted (handedIn s) before before (Refused 12 (29 * s .ntracks))
   unfolding rollReturns after
   too-short h =
-      let e = tracks-count r in
+      let e = tracks-count in
       record { answer = rw (e, lt-ltb (length before) (29 * s .ntracks) h) refl; buffer = rw (e, lt-ltb (length before) (29 * s .ntracks) h) refl }
 
   pub all-rows : {exit : List ℕ} → 29 * s .ntracks ≤ length before → Written (rollOf (handedIn s)) before exit → Rolls accepted (handedIn s) before exit (Rows (s .ntracks))
   unfolding rollReturns after
   all-rows h w =
       let S = handedIn s in
-      let e = tracks-count r in
+      let e = tracks-count in
       let room : 29 * length (S .tracks) ≤ length before = omega arith in
       let g = rw (roll-length S (r .accepted)) at (w .is) in
       record { answer = rw (le-ltb (length before) (29 * length (S .tracks)) room) (ap gives (sym e)); buffer = rw (le-ltb (length before) (29 * length (S .tracks)) room) g }

@@ -6,7 +6,7 @@ use Prim.Native.Nat.{ℕ, zero, suc, _+_, _-_, _≤_}
 use native.Mathlib.Omega.{arith}
 use borrow.Author.Needs.{sfits-of}
 use lib.Dec.{lit<}
-use lib.ListN.{length, take, replicate, length-append, length-map, length-replicate, length-take}
+use lib.ListN.{length, take, replicate, length-append, length-replicate, length-take}
 use mir.Val.{Val}
 use base.Fml.{Fml}
 use denote.Array.{each}
@@ -16,16 +16,14 @@ use Rattle.sheet.specs.declared.Sheet.{Sheet}
 use Rattle.sheet.specs.declared.Track.{Track}
 use Rattle.sheet.specs.declared.Wall.{Wall}
 use Rattle.sheet.specs.Accepted.{Accepted}
-use Rattle.sheet.specs.Format.{TrackFits, WallFits, CommandFits}
+use Rattle.sheet.specs.Format.{TrackFits, WallFits}
 use Rattle.sheet.specs.HandedIn.{noTrack, noWall, handedIn, checkOf, filled, sheetOf}
-use Rattle.sheet.specs.Listing.{Listing, _∈_, listing}
-use Rattle.sheet.specs.Ordered.{commandsIn}
+use Rattle.sheet.specs.Listing.{_∈_, listing}
 use Rattle.sheet.specs.Returned.{Returned, accepted}
 use Rattle.sheet.specs.Scan.{verdictOf, commandsOf}
-use Rattle.sheet.proofs.Acceptance.{each-kind}
-use Rattle.sheet.proofs.RoundTrip.{AllFit, Fit, all-fit, accepted-exactly, accepted-records, listed, handed-back}
+use Rattle.sheet.proofs.RoundTrip.{all-fit, accepted-exactly, accepted-records, listed, handed-back}
 use Rattle.reader.specs.Reading.{ifAccepted, recordsOf}
-use Rattle.causes.specs.Looked.{Ready}
+use Rattle.lines.specs.Lines.{Handed}
 
 -- what the type of an array's elements says of each
 pub each-in : {A D : Type 0} (f : A → D) (own : D → List Val → Fml) (P : A → Type 0) → ((a : A) (u : Val) → shadow (own (f a) (u ∷ [])) → P a) → (l : List A) (us : List Val) → shadow (each D own (map f l) us) → (a : A) → a ∈ l → P a
@@ -70,7 +68,7 @@ no-wall-fits = record { id = record { fits = lit< tt }; ax = record { fits = lit
 few : {A : Type 0} (l : List A) (d : A) (n : ℕ) → length l ≡ 256 → length (take n (l ++ (d ∷ []))) ≤ 256 → n ≤ 256
 few l d n e h = omega (arith, length-append l (d ∷ []), length-take n (l ++ (d ∷ [])))
 
-pub handed-ready : {s : Sheet} → length (s .tracks) ≡ 256 → length (s .walls) ≡ 256 → ((a : Track) → a ∈ s .tracks → TrackFits a) → ((w : Wall) → w ∈ s .walls → WallFits w) → checkOf s ≡ accepted → Ready s
+pub handed-ready : {s : Sheet} → length (s .tracks) ≡ 256 → length (s .walls) ≡ 256 → ((a : Track) → a ∈ s .tracks → TrackFits a) → ((w : Wall) → w ∈ s .walls → WallFits w) → checkOf s ≡ accepted → Handed s
 handed-ready {s} t w f g ok =
     let S = handedIn s in
     let h = all-fit S (record { tracks = claimed TrackFits (s .tracks) noTrack (s .ntracks) f no-track-fits; walls = claimed WallFits (s .walls) noWall (s .nwalls) g no-wall-fits }) in
@@ -88,11 +86,11 @@ handed-ready {s} t w f g ok =
 filled-long : {A : Type 0} (d : A) (l : List A) → length l ≤ 256 → length (filled d l) ≡ 256
 filled-long d l h = length-append l (replicate (256 - length l) d) ∙ ap (λ n. length l + n) (length-replicate (256 - length l) d) ∙ omega arith
 
-pub read-ready : {b : List ℕ} {s : Sheet} → AllBytes b → verdictOf b ≡ accepted → s ≡ sheetOf (recordsOf b) → Ready s × (handedIn s ≡ listing (commandsOf b))
+pub read-ready : {b : List ℕ} {s : Sheet} → AllBytes b → verdictOf b ≡ accepted → s ≡ sheetOf (recordsOf b) → Handed s × (handedIn s ≡ listing (commandsOf b))
 read-ready {b} {s} h e r =
     let L = listing (commandsOf b) in
     let q : s ≡ sheetOf L = r ∙ ap (λ (v : Returned). sheetOf (ifAccepted v L)) e in
     let acc = accepted-records b h e in
     let back : handedIn (sheetOf L) ≡ L = handed-back L in
-    subst (λ (z : Sheet). Ready z × (handedIn z ≡ L)) (sym q)
+    subst (λ (z : Sheet). Handed z × (handedIn z ≡ L)) (sym q)
     (record { accepted = subst Accepted (sym back) acc; tracks-long = filled-long noTrack (L .tracks) (acc .few-tracks); walls-long = filled-long noWall (L .walls) (acc .few-walls); tracks-in = acc .few-tracks; walls-in = acc .few-walls }, back)

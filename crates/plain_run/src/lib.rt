@@ -1,11 +1,9 @@
 // The plain run as callers reach it: records or bytes in, the roll's rows out (document 01, "The rule of ending" and "Returned on refusal").
-ghost use mathlib.Core.Path.{_≡_};
-ghost use lib.ListN.{length};
 ghost use Rattle.sheet.specs.Listing.{listing};
 ghost use Rattle.sheet.specs.Returned.{accepted};
 ghost use Rattle.sheet.specs.Scan.{verdictOf, commandsOf};
 ghost use Rattle.sheet.specs.HandedIn.{handedIn, checkOf};
-ghost use Rattle.causes.specs.Looked.{Ready};
+ghost use Rattle.lines.specs.Lines.{Handed};
 ghost use Rattle.plain_run.specs.Rolled.{Rolls};
 use sheet::Sheet;
 use sheet::Verdict;
@@ -18,7 +16,7 @@ pub enum Rolled {
 
 // The rows of an accepted sheet, or 12.
 fn rows(sheet: Sheet, out: &mut [u8]) -> Rolled
-    requires { ⌜ Ready sheet ⌝ }
+    requires { ⌜ Handed sheet ⌝ }
     ensures { λ r. ⌜ Rolls accepted (handedIn sheet) (now (out .entry)) (now (out .exit)) r ⌝ }
 {
     let n = sheet.ntracks;

@@ -1,4 +1,5 @@
--- The cause at a place of a table, and the seven numbers of a cause.
+-- The cause in a row of a table, and the seven numbers of a cause. The runs have one table: row i has the best cause of the tip at i,
+-- row 256 + i its base cause, the first of the edge and the walls looked at.
 use mathlib.Core.List.{List, [], _∷_}
 use Prim.Native.Nat.{ℕ, _+_, _*_}
 use lib.ListN.{getD}
@@ -18,3 +19,6 @@ causeAt l i =
       s = getD l (7 * i + 5) 0;
       sd = getD l (7 * i + 6) 0;
     }
+
+abbrev pub baseAt : List ℕ → ℕ → Cause
+baseAt l i = causeAt l (256 + i)

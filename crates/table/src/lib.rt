@@ -1,4 +1,4 @@
-// A table of causes, seven numbers for each tip, in a lent slice.
+// A table of causes, seven numbers a row, in a lent slice. Of 512 rows, 0 to 255 are the tips' best causes, 256 to 511 their base causes.
 ghost use mathlib.Core.Path.{_≡_};
 ghost use Prim.Native.Nat.{_+_, _*_, _≤_};
 ghost use lib.ListN.{length};
@@ -6,7 +6,7 @@ ghost use lib.Seq.{sets};
 ghost use Rattle.table.specs.Table.{numbersOf, causeAt};
 use causes::Cause;
 
-// The cause of the tip at i.
+// The cause in row i.
 pub fn load(table: &[u64], i: usize) -> Cause
     requires { ⌜ 7 * i + 7 ≤ length (now table) ⌝ }
     ensures { λ r. ⌜ r ≡ causeAt (now (table .entry)) i ⌝ }
@@ -30,7 +30,7 @@ pub fn load(table: &[u64], i: usize) -> Cause
     }
 }
 
-// c becomes the cause of the tip at i.
+// c goes to row i.
 pub fn store(table: &mut [u64], i: usize, c: Cause)
     requires { ⌜ 7 * i + 7 ≤ length (now table) ⌝ }
     ensures { λ r. ⌜ now (table .exit) ≡ sets (now (table .entry)) (7 * i) (numbersOf c) ⌝ }

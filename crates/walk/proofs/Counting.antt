@@ -61,7 +61,7 @@ step-near (pos w) c = omega arith
 step-near (negsuc w) zero = omega arith
 step-near (negsuc w) (suc c) = omega arith
 
-next-near : (a : Track) (s : ℕ) (k : Cell) → (next a s k .column ≤ k .column + 1) × (next a s k .row ≤ k .row + 1)
+pub next-near : (a : Track) (s : ℕ) (k : Cell) → (next a s k .column ≤ k .column + 1) × (next a s k .row ≤ k .row + 1)
 unfolding next turn
 next-near a s k = go (before lx ly) (before ly lx)
   where

@@ -1,13 +1,13 @@
 //! Sheets and what is expected of them, for a program that is compared with this implementation.
 //!
 //! - `vectors sheets` writes framed sheets, and a histogram of their refusals to standard error.
-//! - `vectors expected`, `vectors rolls` and `vectors cells` read such frames and print a line for
-//!   each: what reader, writer and plain run give, the cells entered and the roll, the cell listings.
+//! - `vectors expected` and `vectors cells` read such frames and print for each its refusal, or
+//!   what reader, writer and both runs give, and the cell listings.
 //! - `vectors roll` reads one sheet without a frame and prints what program `roll` prints.
 
 #![forbid(unsafe_code)]
 
-use reference::cells::{self, Cell, FIGURES};
+use reference::cells::{self, Cell};
 use reference::roll::{roll, roll_bytes};
 use reference::sheet::{ordered_form, read, Records};
 use reference::{chosen, frames, made_up};
@@ -18,7 +18,7 @@ use std::process::ExitCode;
 const SEED: u64 = 1;
 /// The figure of program `roll`, and of the cell listings.
 const FIGURE: u64 = 8;
-const USAGE: &str = "usage: vectors sheets | expected | rolls | cells | roll";
+const USAGE: &str = "usage: vectors sheets | expected | cells | roll";
 
 /// How many sheets get each refusal; 0 stands for accepted.
 fn histogram(sheets: &[Vec<u8>]) -> BTreeMap<u8, usize> {
@@ -43,6 +43,7 @@ fn print_histogram(sheets: &[Vec<u8>]) {
 
 fn write_sheets(out: &mut impl Write) -> io::Result<()> {
     let sheets = [chosen::all(), made_up::all(SEED)].concat();
+    let sheets = made_up::with_other_orders(SEED, sheets);
     for sheet in &sheets {
         frames::write_frame(out, sheet)?;
     }
@@ -50,12 +51,12 @@ fn write_sheets(out: &mut impl Write) -> io::Result<()> {
     Ok(())
 }
 
-/// Prints for each framed sheet its refusal or, if it is accepted, the line for its records.
-fn print_lines(out: &mut impl Write, line: fn(&Records) -> String) -> io::Result<()> {
+/// Prints for each framed sheet its refusal or, if it is accepted, the lines for its records.
+fn print_lines(out: &mut impl Write, lines: fn(&Records) -> String) -> io::Result<()> {
     for sheet in frames::read_frames(&mut io::stdin())? {
         match read(&sheet) {
             Err(refusal) => writeln!(out, "{refusal}")?,
-            Ok(records) => writeln!(out, "{}", line(&records))?,
+            Ok(records) => writeln!(out, "{}", lines(&records))?,
         }
     }
     Ok(())
@@ -65,19 +66,15 @@ fn hexadecimal(bytes: &[u8]) -> String {
     bytes.iter().map(|byte| format!("{byte:02x}")).collect()
 }
 
-/// Numbers of tracks and walls and the ordered form; in a second line the roll's bytes.
+/// Numbers of tracks and walls and the ordered form; the roll's bytes; the cells entered at each
+/// of the six figures.
 fn expected_lines(records: &Records) -> String {
     let Records { tracks, walls } = records;
     let form = hexadecimal(&ordered_form(tracks, walls));
-    let rows = hexadecimal(&roll_bytes(&roll(records)));
-    format!("{} {} {form}\nroll {rows}", tracks.len(), walls.len())
-}
-
-/// The cells entered at each of the six figures, then the roll's bytes (none without tracks).
-fn roll_line(records: &Records) -> String {
     let rows = roll(records);
-    let counts = FIGURES.map(|figure| cells::count(records, &rows, figure).to_string());
-    format!("{} {}", counts.join(" "), hexadecimal(&roll_bytes(&rows)))
+    let bytes = hexadecimal(&roll_bytes(&rows));
+    let counts = cells::counts(records, &rows).map(|count| count.to_string()).join(" ");
+    format!("{} {} {form}\nroll {bytes}\ncells {counts}", tracks.len(), walls.len())
 }
 
 /// Each cell with a point of a trace, as `column,row:id,id`; by columns, then rows, ids rising.
@@ -112,7 +109,6 @@ fn main() -> ExitCode {
     let done = match std::env::args().nth(1).as_deref() {
         Some("sheets") => write_sheets(&mut out),
         Some("expected") => print_lines(&mut out, expected_lines),
-        Some("rolls") => print_lines(&mut out, roll_line),
         Some("cells") => print_lines(&mut out, cells_line),
         Some("roll") => print_roll(&mut out),
         _ => Err(io::Error::other(USAGE)),

@@ -1,50 +1,54 @@
--- `roll` writes the roll of an accepted sheet: the tables are filled, and the turns taken.
-use Rattle.plain.proofs.Beginning.{begin-none, begin-state}
+-- `roll` writes the roll of an accepted sheet: its records are filed, and the tables rolled.
+use mathlib.Core.Path.{refl, sym}
+use lib.ListN.{length-replicate}
+use Prim.Native.Nat.{ℕ}
+use Rattle.turn.proofs.Listed.{listed-is, lined-listed}
+use Rattle.turn.proofs.Rolling.{written-of}
 use borrow.Author.Needs.{needs}
 use Rattle.plain.proofs.roll.Statement.{statement}
 use Rattle.plain.proofs.roll.Tie as tie
 
-slice-aggregate-begin : tie.Need-slice-aggregate-begin
-slice-aggregate-begin c = search needs
+slice-aggregate-file : tie.Need-slice-aggregate-file
+slice-aggregate-file c = refl
 
-slice-aggregate-begin-2 : tie.Need-slice-aggregate-begin-2
-slice-aggregate-begin-2 c = search needs
+slice-aggregate-file-2 : tie.Need-slice-aggregate-file-2
+slice-aggregate-file-2 c = refl
 
-slice-aggregate-begin-3 : tie.Need-slice-aggregate-begin-3
-slice-aggregate-begin-3 c = search needs
+slice-aggregate-file-3 : tie.Need-slice-aggregate-file-3
+slice-aggregate-file-3 c = refl
 
-begin-requires : tie.Need-begin-requires
-begin-requires c κs = begin-none (c .before .before .before .before .pre .0)
+file-requires : tie.Need-file-requires
+file-requires c κs = (c .before .before .before .before .pre .0, length-replicate {A = ℕ} 768 0, length-replicate {A = ℕ} 512 0, length-replicate {A = ℕ} 1280 0)
 
-slice-aggregate-turns : tie.Need-slice-aggregate-turns
-slice-aggregate-turns c = search needs
+slice-aggregate-roll-of : tie.Need-slice-aggregate-roll-of
+slice-aggregate-roll-of c = sym (c .before .before .before .before .file .ensures .tracked .starts-long)
 
-slice-aggregate-turns-2 : tie.Need-slice-aggregate-turns-2
-slice-aggregate-turns-2 c = search needs
+slice-aggregate-roll-of-2 : tie.Need-slice-aggregate-roll-of-2
+slice-aggregate-roll-of-2 c = sym (c .before .before .before .before .before .file .ensures .tracked .speeds-long)
 
-slice-aggregate-turns-3 : tie.Need-slice-aggregate-turns-3
-slice-aggregate-turns-3 c = search needs
+slice-aggregate-roll-of-3 : tie.Need-slice-aggregate-roll-of-3
+slice-aggregate-roll-of-3 c = sym (c .before .before .before .before .before .before .file .ensures .walled .walls-long)
 
-turns-requires : tie.Need-turns-requires
-turns-requires c κs = (begin-state (c .before .before .before .before .before .before .begin .ensures), c .before .before .before .before .before .before .begin .ensures .based, c .before .before .before .before .before .before .before .before .before .before .before .pre .1)
+roll-of-requires : tie.Need-roll-of-requires
+roll-of-requires c κs = (lined-listed (c .before .before .before .before .before .before .before .file .ensures), c .before .before .before .before .before .before .before .before .before .before .before .before .pre .1)
 
 same-length : tie.Need-same-length
 same-length c = search needs
 
 returns : tie.Need-returns
-returns c = search needs
+returns c = written-of (listed-is (c .before .before .before .before .before .before .before .before .before .before .file .ensures)) (c .before .before .roll-of .ensures)
 
 pub roll-spec : {M : Type 1} → statement M
 roll-spec =
     tie.close
     (tie.spec
-    slice-aggregate-begin
-    slice-aggregate-begin-2
-    slice-aggregate-begin-3
-    begin-requires
-    slice-aggregate-turns
-    slice-aggregate-turns-2
-    slice-aggregate-turns-3
-    turns-requires
+    slice-aggregate-file
+    slice-aggregate-file-2
+    slice-aggregate-file-3
+    file-requires
+    slice-aggregate-roll-of
+    slice-aggregate-roll-of-2
+    slice-aggregate-roll-of-3
+    roll-of-requires
     same-length
     returns)

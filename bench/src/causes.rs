@@ -1,0 +1,162 @@
+//! What both runs share, as their proved forms do: times, causes, contacts and rows, in machine words.
+
+use reference::sheet::{Track, Wall};
+use std::cmp::Ordering;
+
+/// num / den, den above 0.
+#[derive(Clone, Copy)]
+pub struct Time {
+    pub num: i64,
+    pub den: i64,
+}
+
+const ZERO: Time = Time { num: 0, den: 1 };
+const ONE: Time = Time { num: 1, den: 1 };
+
+impl Time {
+    /// n / d, where that is a number and not negative.
+    fn quotient(n: i64, d: i64) -> Option<Time> {
+        match d.cmp(&0) {
+            Ordering::Greater if n >= 0 => Some(Time { num: n, den: d }),
+            Ordering::Less if n <= 0 => Some(Time { num: -n, den: -d }),
+            _ => None,
+        }
+    }
+
+    pub fn order(self, other: Time) -> Ordering {
+        (self.num * other.den).cmp(&(other.num * self.den))
+    }
+
+    fn sooner(a: Option<Time>, b: Option<Time>) -> Option<Time> {
+        match (a, b) {
+            (Some(a), Some(b)) => Some(if a.order(b).is_le() { a } else { b }),
+            (a, b) => a.or(b),
+        }
+    }
+}
+
+/// Classes: 0 a track, 1 a wall, 2 the edge.
+#[derive(Clone, Copy)]
+pub struct Cause {
+    pub at: Time,
+    pub class: u8,
+    pub id: u16,
+    pub who: usize,
+    pub reached: Time,
+}
+
+/// What a table holds before it is filled.
+pub const NO_CAUSE: Cause = Cause { at: ZERO, class: 2, id: 0, who: 0, reached: ZERO };
+
+impl Cause {
+    fn order(&self, other: &Cause) -> Ordering {
+        self.at.order(other.at).then(self.class.cmp(&other.class)).then(self.id.cmp(&other.id))
+    }
+
+    pub fn least(self, other: Cause) -> Cause {
+        if self.order(&other).is_le() {
+            self
+        } else {
+            other
+        }
+    }
+}
+
+fn gap(a: u16, b: u16) -> i64 {
+    i64::from(b) - i64::from(a)
+}
+
+fn cross(ux: i64, uy: i64, vx: i64, vy: i64) -> i64 {
+    ux * vy - uy * vx
+}
+
+/// When a is at the point (dx, dy) from its start.
+fn reach(a: &Track, dx: i64, dy: i64) -> Option<Time> {
+    let (vx, vy) = (i64::from(a.vx), i64::from(a.vy));
+    if cross(dx, dy, vx, vy) != 0 {
+        None
+    } else if vx != 0 {
+        Time::quotient(dx, vx)
+    } else {
+        Time::quotient(dy, vy)
+    }
+}
+
+fn contact(a: &Track, b: &Track) -> Option<(Time, Time)> {
+    let (vx, vy, wx, wy) = (i64::from(a.vx), i64::from(a.vy), i64::from(b.vx), i64::from(b.vy));
+    let (dx, dy) = (gap(a.x, b.x), gap(a.y, b.y));
+    let turn = cross(vx, vy, wx, wy);
+    if turn == 0 {
+        return reach(a, dx, dy).map(|t| (t, ZERO));
+    }
+    let t = Time::quotient(cross(dx, dy, wx, wy), turn)?;
+    let s = Time::quotient(cross(dx, dy, vx, vy), turn)?;
+    s.order(t).is_le().then_some((t, s))
+}
+
+fn wall_time(a: &Track, w: &Wall) -> Option<Time> {
+    let (vx, vy) = (i64::from(a.vx), i64::from(a.vy));
+    let (wx, wy) = (gap(w.ax, w.bx), gap(w.ay, w.by));
+    let (dx, dy) = (gap(a.x, w.ax), gap(a.y, w.ay));
+    let turn = cross(vx, vy, wx, wy);
+    if turn == 0 {
+        return Time::sooner(reach(a, dx, dy), reach(a, gap(a.x, w.bx), gap(a.y, w.by)));
+    }
+    let t = Time::quotient(cross(dx, dy, wx, wy), turn)?;
+    let s = Time::quotient(cross(dx, dy, vx, vy), turn)?;
+    s.order(ONE).is_le().then_some(t)
+}
+
+fn edge_time(a: &Track) -> Time {
+    let exit = |x: u16, v: i8| match v.cmp(&0) {
+        Ordering::Less => Time::quotient(i64::from(x), -i64::from(v)),
+        Ordering::Equal => None,
+        Ordering::Greater => Time::quotient(gap(x, 4095), i64::from(v)),
+    };
+    Time::sooner(exit(a.x, a.vx), exit(a.y, a.vy)).unwrap_or(ZERO)
+}
+
+/// The edge, which ends every tip at last.
+pub fn edge(a: &Track) -> Cause {
+    Cause { at: edge_time(a), class: 2, id: 0, who: 0, reached: ZERO }
+}
+
+/// Tip a at wall number `who`.
+pub fn at_wall(a: &Track, who: usize, w: &Wall) -> Option<Cause> {
+    wall_time(a, w).map(|at| Cause { at, class: 1, id: w.id, who, reached: ZERO })
+}
+
+/// Tip a at a point of the line of tip b, number `who`, which b reaches no later.
+pub fn at_track(a: &Track, who: usize, b: &Track) -> Option<Cause> {
+    contact(a, b).map(|(at, reached)| Cause { at, class: 0, id: b.id, who, reached })
+}
+
+fn gcd(a: u64, b: u64) -> u64 {
+    if b == 0 {
+        a
+    } else {
+        gcd(b, a % b)
+    }
+}
+
+pub fn write_row(out: &mut [u8], a: &Track, c: &Cause) {
+    let (num, den) = (c.at.num as u64, c.at.den as u64);
+    let g = gcd(num, den);
+    let (num, den) = (num / g, den / g);
+    let place = |x: u16, v: i8| {
+        let p = i64::from(x) * den as i64 + i64::from(v) * num as i64;
+        (64 * p / den as i64) as u32
+    };
+    let kind = match c.class {
+        0 if c.at.order(c.reached).is_le() => 2,
+        0 => 1,
+        class => class + 2,
+    };
+    out[..2].copy_from_slice(&a.id.to_le_bytes());
+    out[2] = kind;
+    out[3..5].copy_from_slice(&c.id.to_le_bytes());
+    out[5..13].copy_from_slice(&num.to_le_bytes());
+    out[13..21].copy_from_slice(&den.to_le_bytes());
+    out[21..25].copy_from_slice(&place(a.x, a.vx).to_le_bytes());
+    out[25..29].copy_from_slice(&place(a.y, a.vy).to_le_bytes());
+}

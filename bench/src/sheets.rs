@@ -1,0 +1,105 @@
+//! The sheets that are timed.
+
+use reference::made_up::{Ground, BORDERS, SMALL, WHOLE};
+use reference::rng::Rng;
+use reference::roll::roll;
+use reference::sheet::{listing, read, Command, Records, Track};
+
+const SEED: u64 = 7;
+const SIZES: [(usize, usize); 6] = [(16, 0), (64, 0), (256, 0), (16, 256), (64, 256), (256, 256)];
+
+pub struct Timed {
+    kind: &'static str,
+    pub bytes: Vec<u8>,
+    pub records: Records,
+}
+
+impl Timed {
+    fn new(kind: &'static str, listed: Vec<Command>) -> Timed {
+        let bytes = listing(listed);
+        let records = read(&bytes).expect("accepted");
+        Timed { kind, bytes, records }
+    }
+
+    /// The kind, and what the sheet holds, which may be fewer records than were wanted.
+    pub fn name(&self) -> String {
+        let Records { tracks, walls } = &self.records;
+        format!("{} {} tracks {} walls", self.kind, tracks.len(), walls.len())
+    }
+
+    /// The sheet's side in mean lengths of its traces.
+    pub fn mean_lengths_in_a_side(&self) -> f64 {
+        let length = |track: &Track, time: f64| time * f64::from(track.vx).hypot(track.vy.into());
+        let rows = roll(&self.records);
+        let lengths = rows.iter().filter_map(|row| {
+            let (num, den) = row.time_in_lowest_terms();
+            let track = self.records.tracks.iter().find(|track| track.id == row.id);
+            track.map(|track| length(track, num as f64 / den as f64))
+        });
+        4096.0 * rows.len() as f64 / lengths.sum::<f64>()
+    }
+
+    /// 256 tracks, the mean trace shorter than a 16th of the sheet, not all of them in one small place.
+    pub fn is_full_with_short_traces(&self) -> bool {
+        self.records.tracks.len() == 256 && self.mean_lengths_in_a_side() > 16.0 && self.kind != "snapped"
+    }
+}
+
+/// So many tracks and walls of those that are made, or fewer where there is no room for them.
+fn fill(tracks: usize, walls: usize, mut make: impl FnMut(&mut Rng) -> Command) -> Vec<Command> {
+    let mut rng = Rng::new(SEED);
+    let mut records = Records::default();
+    let mut listed = Vec::new();
+    for _ in 0..200_000 {
+        if records.tracks.len() == tracks && records.walls.len() == walls {
+            break;
+        }
+        let command = make(&mut rng);
+        let wanted = match command {
+            Command::Track(_) => records.tracks.len() < tracks,
+            Command::Wall(_) => records.walls.len() < walls,
+            Command::End => false,
+        };
+        if wanted && records.admit(command).is_ok() {
+            listed.push(command);
+        }
+    }
+    listed
+}
+
+/// A random track that meets this one soon, if it can start inside the sheet: at one point, at time 1 or 2.
+fn meeting(track: &Track, rng: &mut Rng) -> Option<Command> {
+    let other = WHOLE.command(rng).as_track()?;
+    let time = 1 + rng.below(2) as i64;
+    let start = track.start() + (track.speed() - other.speed()) * time;
+    let [x, y] = [start.x, start.y].map(|along| u16::try_from(along).ok());
+    Some(Command::Track(Track { id: !track.id, x: x?, y: y?, ..other }))
+}
+
+/// Random walls, and tracks all over the sheet that meet by twos.
+fn short(tracks: usize, walls: usize) -> Vec<Command> {
+    let mut partner = None;
+    fill(tracks, walls, |rng| {
+        if let Some(command) = partner.take() {
+            return command;
+        }
+        let command = WHOLE.command(rng);
+        let Some(track) = command.as_track() else { return command };
+        let track = Track { id: rng.draw() as u16, ..track };
+        partner = (0..100).find_map(|_| meeting(&track, rng));
+        Command::Track(track)
+    })
+}
+
+pub fn on_ground(kind: &'static str, ground: &Ground, tracks: usize, walls: usize) -> Timed {
+    Timed::new(kind, fill(tracks, walls, |rng| ground.command(rng)))
+}
+
+/// Random; on cell borders; on a field of 20 × 20 points, which has no room for 256 tracks beside 256 walls; with short traces.
+pub fn all() -> Vec<Timed> {
+    let grounds = [("random", WHOLE), ("borders", BORDERS), ("snapped", SMALL)];
+    let of =
+        |(kind, ground): (&'static str, Ground)| SIZES.map(|(tracks, walls)| on_ground(kind, &ground, tracks, walls));
+    let short = SIZES.map(|(tracks, walls)| Timed::new("short", short(tracks, walls)));
+    grounds.into_iter().flat_map(of).chain(short).collect()
+}

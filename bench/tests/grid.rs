@@ -1,0 +1,45 @@
+//! The grid run in Rust against the outside implementation: rows, and cells entered, at the six figures.
+
+use reference::cells::{count, FIGURES};
+use reference::made_up::GROUNDS;
+use reference::rng::Rng;
+use reference::roll::{roll, roll_bytes};
+use reference::sheet::{commands, listing, read, Records};
+use reference::{chosen, made_up};
+
+fn check(records: &Records) {
+    let rows = roll(records);
+    let expected = roll_bytes(&rows);
+    for figure in FIGURES {
+        let mut out = vec![0; expected.len()];
+        let cells = bench::grid::roll(records, figure, &mut out);
+        assert!(out == expected, "rows at {figure}: {records:?}");
+        assert_eq!(cells, count(records, &rows, figure) as u64, "cells at {figure}: {records:?}");
+    }
+    let mut out = vec![0; expected.len()];
+    bench::selection::roll(records, &mut out);
+    assert!(out == expected, "plain run: {records:?}");
+}
+
+#[test]
+fn chosen_and_made_up_sheets() {
+    let sheets = [chosen::all(), made_up::all(1), made_up::all(5)].concat();
+    sheets.iter().filter_map(|sheet| read(sheet).ok()).for_each(|records| check(&records));
+}
+
+#[test]
+fn crowded_sheets_in_any_order() {
+    let mut rng = Rng::new(6);
+    for ground in GROUNDS {
+        for draws in [5, 20, 80, 300] {
+            for _ in 0..60 {
+                let listed = ground.accepted(&mut rng, draws);
+                let records = read(&listing(listed)).expect("accepted");
+                check(&records);
+                let mut shuffled: Vec<_> = commands(&records.tracks, &records.walls).collect();
+                rng.shuffle(&mut shuffled);
+                check(&read(&listing(shuffled)).expect("accepted"));
+            }
+        }
+    }
+}

@@ -1,0 +1,11 @@
+pub mod SmallTimes
+pub mod Ends
+pub mod Ids
+pub mod Figures
+pub mod Rolling
+pub mod Outcome
+pub mod Copying
+pub mod Picking
+pub mod Read
+pub mod TheListing
+pub mod Worked

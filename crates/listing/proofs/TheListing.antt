@@ -1,0 +1,40 @@
+-- What the cell listing writes, in the words of the rule: `the-listing`.
+use mathlib.Core.Path.{_≡_, refl, sym, subst}
+use mathlib.Core.List.{List, _++_}
+use Prim.Native.Nat.{ℕ, _*_, _≤_, _<_}
+use borrow.Author.Tests.{lt-ltb, le-ltb}
+use lib.ListN.{length, drop}
+use Rattle.sheet.specs.Accepted.{Accepted}
+use Rattle.sheet.specs.Listing.{Listing}
+use Rattle.sheet.specs.Returned.{accepted, gives}
+use Rattle.rule.specs.declared.Row.{Row}
+use Rattle.rule.specs.Rows.{timeOf}
+use Rattle.rule.specs.Roll.{RollOf}
+use Rattle.rule.proofs.Existence.{roll-is}
+use Rattle.cells.specs.Grid.{Figure, side}
+use Rattle.listing.specs.declared.Listed.{Listed}
+use Rattle.listing.specs.CellIds.{CellIds}
+use Rattle.listing.specs.Listed.{listed, idBytes, cellCheck, andCell, listReturns, after, cell, Lists}
+use Rattle.listing.proofs.Figures.{figure-true}
+
+-- the ids of the tracks that have a point in the cell while each tip ends at the time in its own row of `rows`, in front of the buffer's rest
+pub record TheListing (S : Listing) (rows : List Row) (g column row : ℕ) (before exit : List ℕ) (r : Listed) : Type 0 where
+  pub ids : List ℕ
+  pub are : CellIds (timeOf rows) (S .tracks) (side g) (cell column row) ids
+  pub answer : listed r ≡ gives (length ids)
+  pub written : exit ≡ idBytes ids ++ drop (2 * length ids) before
+
+-- `rows` is any roll of the sheet, of which there is one
+pub the-listing :
+    (S : Listing) (rows : List Row) (g column row : ℕ) (before exit : List ℕ) (r : Listed) → Accepted S → RollOf S rows → Figure g → column < g → row < g
+    → (h : Lists accepted S g column row before exit r) → 2 * length (h .ids) ≤ length before → TheListing S rows g column row before exit r
+unfolding andCell cellCheck listReturns after
+the-listing S rows g column row before exit r acc roll f c w h room =
+    let inside : andCell accepted (cellCheck g column row) ≡ accepted = rw (figure-true f, lt-ltb column g c, lt-ltb row g w) refl in
+    let fits = le-ltb (length before) (2 * length (h .ids)) room in
+    record {
+      ids = h .ids;
+      are = subst (λ (l : List Row). CellIds (timeOf l) (S .tracks) (side g) (cell column row) (h .ids)) (sym (roll-is S acc rows roll)) (h .are inside);
+      answer = rw (inside, fits) at (h .answer);
+      written = rw (inside, fits) at (h .buffer);
+    }

@@ -1,0 +1,4 @@
+pub mod CellIds
+pub mod Ends
+pub mod Picked
+pub mod Listed

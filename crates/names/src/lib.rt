@@ -1,0 +1,63 @@
+// The partner's name (document 01, "Session and names"): a part of one of two lent name lists, chosen by the kind of ending.
+ghost use mathlib.Core.Path.{_≡_};
+ghost use Prim.Native.Nat.{_<_};
+ghost use Rattle.names.specs.NameList.{nameOf};
+ghost use Rattle.names.specs.Partner.{partnerName, IsPart, IsNamed};
+use layout::get16;
+use rule::Ending;
+
+// Where a name lies in its list.
+enum Found {
+    // Its first byte and its length.
+    At(usize, usize),
+    Nothing,
+}
+
+// A byte with its bound, so that the end of an entry is known to fit.
+fn wide(b: u8) -> usize
+    ensures { λ r. ⌜ (r ≡ b) × (r < 256) ⌝ }
+{
+    b as usize
+}
+
+// Entry by entry: an entry has 3 bytes before its name.
+fn find(list: &[u8], id: u16) -> Found
+    ensures { λ r. ⌜ r ≡ nameOf (now (list .entry)) id ⌝ }
+{
+    let mut at: usize = 0;
+    while 3 <= list.len() - at {
+        let start = at + 3;
+        let size = wide(list[at + 2]);
+        if list.len() - start < size {
+            return Found::Nothing;
+        }
+        if get16(list, at) == id {
+            return Found::At(start, size);
+        }
+        at = start + size;
+    }
+    Found::Nothing
+}
+
+// The name in a list, or the empty part at the start of `tracks`.
+fn named<'a>(tracks: &'a [u8], list: &'a [u8], id: u16) -> &'a [u8]
+    ensures { λ r. ⌜ IsNamed (tracks .entry) (list .entry) (nameOf (now (list .entry)) id) r ⌝ }
+{
+    let f = find(list, id);
+    match f {
+        Found::At(start, size) => &list[start..start + size],
+        Found::Nothing => &tracks[..0],
+    }
+}
+
+// "as a part of the track list for kinds 1 and 2 and of the wall list for kind 3"
+pub fn partner_name<'a>(tracks: &'a [u8], walls: &'a [u8], ending: Ending) -> &'a [u8]
+    ensures { λ r. ⌜ IsPart (tracks .entry) (walls .entry) (partnerName (now (tracks .entry)) (now (walls .entry)) ending) r ⌝ }
+{
+    match ending {
+        Ending::ByTrack(q) => named(tracks, tracks, q),
+        Ending::Meeting(q) => named(tracks, tracks, q),
+        Ending::ByWall(q) => named(tracks, walls, q),
+        Ending::Edge => &tracks[..0],
+    }
+}

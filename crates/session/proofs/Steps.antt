@@ -1,0 +1,180 @@
+-- Sequences of calls on a session, each as its contract says. Main theorems: `so-far` (what has been shown since the last reset is the
+-- front of the one roll, in order, as many rows as the steps named or those left), and `same-place` and `refreshed` (the same rows at
+-- the same places for every order of the sheet's commands). `within` and `kept` speak of any session.
+use mathlib.Core.Path.{_≡_, refl, sym, ap, ap₂, _∙_, subst}
+use mathlib.Core.Bool.{Bool, true, false}
+use mathlib.Core.List.{List, [], _++_, List·Permᴰ}
+use Prim.Native.Nat.{ℕ, _+_, _-_, _*_, _≤_, min}
+use native.Mathlib.Nat.{zero-min}
+use native.Mathlib.Omega.{arith}
+use lib.Dec.{ltb}
+use lib.ListN.{length, take, drop, length-take, length-drop}
+use lib.Seq.{take-at, take-add}
+use Rattle.layout.specs.Bytes.{AllBytes}
+use Rattle.sheet.specs.declared.Sheet.{Sheet}
+use Rattle.sheet.specs.declared.Command.{Command}
+use Rattle.sheet.specs.Format.{encodeAll}
+use Rattle.sheet.specs.Listing.{Listing, listing}
+use Rattle.sheet.specs.Returned.{Returned, accepted, gives, refused, verdict}
+use Rattle.sheet.specs.Scan.{verdictOf, commandsOf}
+use Rattle.sheet.specs.HandedIn.{handedIn, listedForm, checkOf, sheetOf}
+use Rattle.sheet.proofs.Order.{reordered}
+use Rattle.sheet.proofs.RoundTrip.{AllFit, accepted-exactly, order-verdict, handed-back, written-read}
+use Rattle.reader.specs.Reading.{ifAccepted, recordsOf}
+use Rattle.rule.specs.declared.Row.{Row}
+use Rattle.rule.specs.RowBytes.{rollBytes}
+use Rattle.rule.specs.Selection.{rollOf}
+use Rattle.rule.proofs.OrderFree.{roll-order}
+use Rattle.rule.proofs.RowBytes.{roll-bytes-length}
+use Rattle.row.proofs.Roll.{roll-append}
+use Rattle.plain_run.specs.Rolled.{rolled}
+use Rattle.session.specs.declared.Session.{Session}
+use Rattle.session.specs.declared.Begun.{Begun}
+use Rattle.session.specs.declared.Advanced.{Advanced}
+use Rattle.session.specs.Stepping.{rollIn, rowsLeft, nextRows, shownIn, begun, restart, Begins, advanceReturns, advanceSession, advanceBuffer, Advances}
+use Rattle.session.proofs.Parts.{take-min, drop-min}
+use Rattle.plain_run.proofs.Verdicts.{Decided, decided}
+
+-- ---- one call on any session
+
+went-on : (v : Returned) (rows : List Row) (lent : ℕ) {k : ℕ} → Decided v → advanceReturns v rows lent ≡ gives k → (v ≡ accepted) × (k ≡ length rows)
+unfolding advanceReturns
+went-on accepted rows lent {k} h e = go (ltb lent (29 * length rows)) refl
+  where
+    go : (b : Bool) → ltb lent (29 * length rows) ≡ b → (accepted ≡ accepted) × (k ≡ length rows)
+    go true t = absurd (let z : _≡_ {A = ℕ} 0 1 = cc (rw t at e) in omega arith)
+    go false t = let g : gives (length rows) ≡ gives k = rw t at e in (refl, cc)
+went-on (gives n) rows lent h e = absurd h
+went-on (refused n p) rows lent h e = absurd (let z : _≡_ {A = ℕ} 0 1 = cc in omega arith)
+
+-- an advance that gave k
+pub record Went (s : Session) (n : ℕ) (exit : List ℕ) (after : Session) (k : ℕ) : Type 0 where
+  pub ok : checkOf (s .sheet) ≡ accepted
+  pub count : k ≡ length (nextRows s n)
+  pub session : after ≡ record { sheet = s .sheet; shown = shownIn s + k }
+  pub bytes : take (29 * k) exit ≡ rollBytes (nextRows s n)
+
+module _ {s : Session} {n : ℕ} {before exit : List ℕ} {r : Advanced} (h : Advances s n before exit r) where
+  pub went : {k : ℕ} → rolled (r .answer) ≡ gives k → Went s n exit (r .session) k
+  unfolding advanceSession advanceBuffer
+  went {k} e =
+      let rows = nextRows s n in
+      let g = sym (h .answer) ∙ e in
+      let (ok, c) = went-on (checkOf (s .sheet)) rows (length before) (decided (listedForm (s .sheet))) g in
+      record {
+        ok = ok;
+        count = c;
+        session = rw g at (h .session);
+        bytes = ap (take (29 * k)) (rw g at (h .buffer)) ∙ take-at (rollBytes rows) _ (29 * k) (roll-bytes-length rows ∙ ap (λ (j : ℕ). 29 * j) (sym c));
+      }
+
+  -- an accepted call hands back a session whose count is within its roll
+  pub within : {k : ℕ} → rolled (r .answer) ≡ gives k → r .session .shown ≤ length (rollIn (r .session))
+  within {k} e =
+      let w = went e in
+      let c = w .count ∙ length-take n (rowsLeft s) in
+      let d = length-drop (s .shown) (rollIn s) in
+      subst (λ (t : Session). t .shown ≤ length (rollIn t)) (sym (w .session)) (omega (arith, c, d))
+
+  -- a refused call hands back the very session and changes no byte
+  pub kept : {m p : ℕ} → rolled (r .answer) ≡ refused m p → (r .session ≡ s) × (exit ≡ before)
+  unfolding advanceSession advanceBuffer
+  kept e = let g = sym (h .answer) ∙ e in (rw g at (h .session), rw g at (h .buffer))
+
+-- ---- sequences of calls
+
+-- a session after some calls, of a sheet with these records, with the bytes shown since the last reset and the steps named since then
+pub data Steps (S : Listing) : Session → List ℕ → ℕ → Type 0 where
+  opened : (b : List ℕ) (r : Begun) → AllBytes b → Begins (verdictOf b) (begun (sheetOf (recordsOf b))) r → verdict (r .answer) ≡ accepted → listing (commandsOf b) ≡ S → Steps S (r .session) [] 0
+  handed : (sheet : Sheet) (r : Begun) → Begins (checkOf sheet) (begun sheet) r → verdict (r .answer) ≡ accepted → handedIn sheet ≡ S → Steps S (r .session) [] 0
+  advanced : (s : Session) (w : List ℕ) (a n : ℕ) (before exit : List ℕ) (r : Advanced) (k : ℕ) → Steps S s w a → Advances s n before exit r → rolled (r .answer) ≡ gives k → Steps S (r .session) (w ++ take (29 * k) exit) (a + n)
+  not-advanced : (s : Session) (w : List ℕ) (a n : ℕ) (before exit : List ℕ) (r : Advanced) (m p : ℕ) → Steps S s w a → Advances s n before exit r → rolled (r .answer) ≡ refused m p → Steps S (r .session) w a
+  reset : (s : Session) (w : List ℕ) (a : ℕ) (r : Begun) → Steps S s w a → Begins (checkOf (s .sheet)) (restart (checkOf (s .sheet)) s) r → verdict (r .answer) ≡ accepted → Steps S (r .session) [] 0
+  not-reset : (s : Session) (w : List ℕ) (a : ℕ) (r : Begun) (m p : ℕ) → Steps S s w a → Begins (checkOf (s .sheet)) (restart (checkOf (s .sheet)) s) r → verdict (r .answer) ≡ refused m p → Steps S (r .session) w a
+
+-- the front of the one roll has been shown, in order
+pub record SoFar (S : Listing) (s : Session) (w : List ℕ) (a : ℕ) : Type 0 where
+  pub ok : checkOf (s .sheet) ≡ accepted
+  pub of-sheet : handedIn (s .sheet) ≡ S
+  pub cursor : s .shown ≡ min a (length (rollOf S))
+  pub bytes : w ≡ rollBytes (take a (rollOf S))
+
+begins : (S : Listing) (sheet : Sheet) (s : Session) → s ≡ begun sheet → checkOf sheet ≡ accepted → handedIn sheet ≡ S → SoFar S s [] 0
+unfolding rollBytes
+begins S sheet s e ok h =
+    subst (λ (t : Session). SoFar S t [] 0) (sym e)
+    (record { ok = ok; of-sheet = h; cursor = sym (zero-min (length (rollOf S))); bytes = refl })
+
+steps-on : (S : Listing) (s : Session) (w : List ℕ) (a n : ℕ) {exit : List ℕ} {t : Session} {k : ℕ} → SoFar S s w a → Went s n exit t k → SoFar S t (w ++ take (29 * k) exit) (a + n)
+steps-on S s w a n {exit} {t} {k} p q =
+    let R = rollOf S in
+    let roll : rollIn s ≡ R = ap rollOf (p .of-sheet) in
+    let next : nextRows s n ≡ take n (drop a R) =
+    ap₂ (λ (j : ℕ) (l : List Row). take n (drop j l)) (p .cursor) roll ∙ ap (take n) (drop-min a R) in
+    let count : k ≡ min n (length R - a) = q .count ∙ ap length next ∙ length-take n (drop a R) ∙ ap (min n) (length-drop a R) in
+    let long : length (rollIn s) ≡ length R = ap length roll in
+    subst (λ (u : Session). SoFar S u (w ++ take (29 * k) exit) (a + n)) (sym (q .session))
+    (record {
+      ok = p .ok;
+      of-sheet = p .of-sheet;
+      cursor = omega (arith, p .cursor, count, long);
+      bytes = ap₂ (λ (x y : List ℕ). x ++ y) (p .bytes) (q .bytes ∙ ap rollBytes next) ∙ sym (roll-append (take a R) (take n (drop a R))) ∙ ap rollBytes (sym (take-add a n R));
+    })
+
+pub so-far : {S : Listing} {s : Session} {w : List ℕ} {a : ℕ} → Steps S s w a → SoFar S s w a
+unfolding restart
+so-far {S} (opened b r f h e l) =
+    let v = sym (h .answer) ∙ e in
+    let q : recordsOf b ≡ S = ap (λ (x : Returned). ifAccepted x (listing (commandsOf b))) v ∙ l in
+    begins S (sheetOf S) (r .session) (h .session ∙ ap (λ (T : Listing). begun (sheetOf T)) q) (subst (λ (T : Listing). checkOf (sheetOf T) ≡ accepted) l (written-read b f v .checked)) (handed-back S)
+so-far {S} (handed sheet r h e l) = begins S sheet (r .session) (h .session) (sym (h .answer) ∙ e) l
+so-far {S} (advanced s w a n before exit r k p h e) = steps-on S s w a n (so-far p) (went h e)
+so-far {S} (not-advanced s w a n before exit r m q p h e) = subst (λ (t : Session). SoFar S t w a) (sym (kept h e .0)) (so-far p)
+so-far {S} (reset s w a r p h e) =
+    let v = sym (h .answer) ∙ e in
+    begins S (s .sheet) (r .session) (h .session ∙ ap (λ (x : Returned). restart x s) v) v (so-far p .of-sheet)
+so-far {S} (not-reset s w a r m q p h e) =
+    subst (λ (t : Session). SoFar S t w a) (sym (h .session ∙ ap (λ (x : Returned). restart x s) (sym (h .answer) ∙ e))) (so-far p)
+
+-- "as many rows as the steps named or those left", which are those that the session counts
+module _ {S : Listing} {s : Session} {w : List ℕ} {a : ℕ} (p : Steps S s w a) where
+  pub as-many : length w ≡ 29 * min a (length (rollOf S))
+  as-many = ap length (so-far p .bytes) ∙ roll-bytes-length (take a (rollOf S)) ∙ ap (λ (j : ℕ). 29 * j) (length-take a (rollOf S))
+
+  pub as-counted : w ≡ rollBytes (take (s .shown) (rollOf S))
+  as-counted =
+      let g = so-far p in
+      g .bytes ∙ ap rollBytes (sym (take-min a (rollOf S)) ∙ ap (λ (j : ℕ). take j (rollOf S)) (sym (g .cursor)))
+
+-- ---- for every order of the commands
+
+pub record SamePlace (s s′ : Session) (w w′ : List ℕ) : Type 0 where
+  pub cursor : s .shown ≡ s′ .shown
+  pub bytes : w ≡ w′
+  pub next : (n : ℕ) → nextRows s n ≡ nextRows s′ n
+
+module _ {l k : List Command} (p : List·Permᴰ l k) (f : AllFit l) (e : verdictOf (encodeAll l) ≡ accepted) where
+  -- the other order can be opened, and has the one roll
+  pub opens-too : verdictOf (encodeAll k) ≡ accepted
+  opens-too = order-verdict p f e
+
+  one : rollOf (listing l) ≡ rollOf (listing k)
+  one = roll-order (reordered p) (accepted-exactly f .0 e)
+
+  module _ {s s′ : Session} {w w′ : List ℕ} {a a′ : ℕ} (x : Steps (listing l) s w a) (y : Steps (listing k) s′ w′ a′) where
+    at : s .shown ≡ s′ .shown → SamePlace s s′ w w′
+    at c =
+        let r : rollIn s ≡ rollIn s′ = ap rollOf (so-far x .of-sheet) ∙ one ∙ sym (ap rollOf (so-far y .of-sheet)) in
+        record {
+          cursor = c;
+          bytes = as-counted x ∙ ap₂ (λ (j : ℕ) (R : List Row). rollBytes (take j R)) c one ∙ sym (as-counted y);
+          next = λ n. ap₂ (λ (j : ℕ) (R : List Row). take n (drop j R)) c r;
+        }
+
+    -- after the same steps
+    pub same-place : a ≡ a′ → SamePlace s s′ w w′
+    same-place q = at (so-far x .cursor ∙ ap₂ (λ (j : ℕ) (R : List Row). min j (length R)) q one ∙ sym (so-far y .cursor))
+
+    -- a refresh: opened anew, and advanced by as many as had been shown
+    pub refreshed : a′ ≡ s .shown → SamePlace s s′ w w′
+    refreshed q = at (omega (arith, so-far x .cursor, so-far y .cursor, q, ap length one))

@@ -1,0 +1,86 @@
+-- What the calls on a stepping session give and hand back (document 01, "Session and names" and "Returned on refusal").
+use mathlib.Core.Path.{_≡_}
+use mathlib.Core.Bool.{cond}
+use mathlib.Core.List.{List, _++_}
+use Prim.Native.Nat.{ℕ, _+_, _*_, min}
+use lib.Dec.{ltb}
+use lib.ListN.{length, take, drop}
+use Rattle.sheet.specs.declared.Sheet.{Sheet}
+use Rattle.sheet.specs.Returned.{Returned, accepted, gives, refused, verdict}
+use Rattle.sheet.specs.HandedIn.{handedIn, checkOf}
+use Rattle.rule.specs.declared.Row.{Row}
+use Rattle.rule.specs.RowBytes.{rollBytes}
+use Rattle.rule.specs.Selection.{rollOf}
+use Rattle.plain_run.specs.Rolled.{rolled}
+use Rattle.session.specs.declared.Session.{Session}
+use Rattle.session.specs.declared.Advanced.{Advanced}
+use Rattle.session.specs.declared.Begun.{Begun}
+
+-- the one roll of a session's sheet
+abbrev pub rollIn : Session → List Row
+rollIn s = rollOf (handedIn (s .sheet))
+
+-- "rows not yet shown": none where more are shown than the roll has
+abbrev pub rowsLeft : Session → List Row
+rowsLeft s = drop (s .shown) (rollIn s)
+
+-- "the next n rows, or those left if fewer"
+abbrev pub nextRows : Session → ℕ → List Row
+nextRows s n = take n (rowsLeft s)
+
+-- "A session handed in with more rows shown than its roll has counts as one with all shown"
+abbrev pub shownIn : Session → ℕ
+shownIn s = min (s .shown) (length (rollIn s))
+
+-- ---- open and reset
+
+-- no row shown yet
+abbrev pub begun : Sheet → Session
+begun sheet = record { sheet = sheet; shown = 0 }
+
+-- "Reset puts that number to 0"; a refused call hands back the very session
+unfoldable pub restart : Returned → Session → Session
+restart accepted s = begun (s .sheet)
+restart (gives n) s = begun (s .sheet)
+restart (refused n p) s = s
+
+-- "its sheet is refused as any sheet is"; the session handed out
+pub record Begins (v : Returned) (s : Session) (r : Begun) : Type 0 where
+  pub answer : verdict (r .answer) ≡ v
+  pub session : r .session ≡ s
+
+-- ---- advance
+
+-- "Advance by n .. gives how many"; "After the sheet come .. 12", with the length that this call needs
+unfoldable pub advanceReturns : Returned → List Row → ℕ → Returned
+advanceReturns accepted rows lent = cond (ltb lent (29 * length rows)) (refused 12 (29 * length rows)) (gives (length rows))
+advanceReturns (gives n) rows lent = gives n
+advanceReturns (refused n p) rows lent = refused n p
+
+-- past the rows that were written; a refused call hands back the very session
+unfoldable pub advanceSession : Returned → Session → Session
+advanceSession accepted s = s
+advanceSession (gives k) s = record { sheet = s .sheet; shown = shownIn s + k }
+advanceSession (refused n p) s = s
+
+-- "A refusal writes nothing. An accepted call writes only its own length."
+unfoldable pub advanceBuffer : Returned → List Row → List ℕ → List ℕ
+advanceBuffer accepted rows lent = lent
+advanceBuffer (gives k) rows lent = rollBytes rows ++ drop (29 * length rows) lent
+advanceBuffer (refused n p) rows lent = lent
+
+abbrev pub advanceOf : Session → ℕ → ℕ → Returned
+advanceOf s n lent = advanceReturns (checkOf (s .sheet)) (nextRows s n) lent
+
+pub record Advances (s : Session) (n : ℕ) (before exit : List ℕ) (r : Advanced) : Type 0 where
+  pub answer : rolled (r .answer) ≡ advanceOf s n (length before)
+  pub session : r .session ≡ advanceSession (advanceOf s n (length before)) s
+  pub buffer : exit ≡ advanceBuffer (advanceOf s n (length before)) (nextRows s n) before
+
+-- ---- the number still running
+
+-- "the number of tracks still running (rows not yet shown), counted each time"
+unfoldable pub runningOf : Returned → Session → Returned
+runningOf accepted s = gives (length (rowsLeft s))
+runningOf (gives n) s = gives n
+runningOf (refused n p) s = refused n p

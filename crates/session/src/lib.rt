@@ -1,0 +1,137 @@
+// A stepping session: an accepted sheet and how many rows of its roll have been shown (document 01, "Session and names").
+// Anyone can make one with any contents, so every call judges its sheet again.
+ghost use mathlib.Core.Path.{_≡_};
+ghost use Prim.Native.Nat.{min};
+ghost use Rattle.sheet.specs.Returned.{verdict};
+ghost use Rattle.sheet.specs.Scan.{verdictOf};
+ghost use Rattle.sheet.specs.HandedIn.{checkOf, sheetOf};
+ghost use Rattle.reader.specs.Reading.{recordsOf};
+ghost use Rattle.plain_run.specs.Rolled.{rolled};
+ghost use Rattle.session.specs.Stepping.{begun, restart, Begins, Advances, runningOf};
+use plain_run::Rolled;
+use sheet::Sheet;
+use sheet::Verdict;
+
+pub struct Session {
+    pub sheet: Sheet,
+    pub shown: usize,
+}
+
+// The session handed back, and the number of rows written or the table's number with its place or length.
+pub struct Advanced {
+    pub session: Session,
+    pub answer: Rolled,
+}
+
+// The session handed out, and whether its sheet is accepted or the table's number with its place.
+pub struct Begun {
+    pub session: Session,
+    pub answer: Verdict,
+}
+
+fn least(a: usize, b: usize) -> usize
+    ensures { λ r. ⌜ r ≡ min a b ⌝ }
+{
+    if a < b { a } else { b }
+}
+
+// A session with no row shown.
+fn begin(sheet: Sheet, answer: Verdict) -> Begun
+    ensures { λ r. ⌜ Begins (verdict answer) (begun sheet) r ⌝ }
+{
+    Begun {
+        session: Session { sheet, shown: 0 },
+        answer,
+    }
+}
+
+impl Session {
+    // Over the records of a sheet's bytes, with no row shown. A refused sheet comes with no records.
+    pub fn open(s: &[u8]) -> Begun
+        ensures { λ r. ⌜ Begins (verdictOf (now (s .entry))) (begun (sheetOf (recordsOf (now (s .entry))))) r ⌝ }
+    {
+        let r = reader::read(s);
+        let sheet = r.sheet;
+        let answer = r.verdict;
+        begin(sheet, answer)
+    }
+
+    // Over records handed in, with no row shown.
+    pub fn open_records(sheet: Sheet) -> Begun
+        ensures { λ r. ⌜ Begins (checkOf sheet) (begun sheet) r ⌝ }
+    {
+        let verdict = writer::check(sheet);
+        begin(sheet, verdict)
+    }
+
+    // Writes the next n rows, or those left if fewer. `shown + n` may exceed the machine's word: it is never computed.
+    pub fn advance(self, n: usize, out: &mut [u8]) -> Advanced
+        ensures { λ r. ⌜ Advances self n (now (out .entry)) (now (out .exit)) r ⌝ }
+    {
+        let sheet = self.sheet;
+        let mut roll = [0u8; 7424];
+        let rolled = plain_run::plain_roll(sheet, &mut roll);
+        match rolled {
+            Rolled::Refused(_, _) => Advanced {
+                session: self,
+                answer: rolled,
+            },
+            Rolled::Rows(all) => {
+                let from = least(self.shown, all);
+                let left = all - from;
+                let k = least(n, left);
+                let needed = 29 * k;
+                if out.len() < needed {
+                    return Advanced {
+                        session: self,
+                        answer: Rolled::Refused(12, needed),
+                    };
+                }
+                let start = 29 * from;
+                let end = start + needed;
+                bytes::copy(&roll[start..end], out);
+                let shown = from + k;
+                let session = Session { sheet, shown };
+                Advanced {
+                    session,
+                    answer: Rolled::Rows(k),
+                }
+            }
+        }
+    }
+
+    // Puts the number of rows shown to 0.
+    pub fn reset(self) -> Begun
+        ensures { λ r. ⌜ Begins (checkOf (self .sheet)) (restart (checkOf (self .sheet)) self) r ⌝ }
+    {
+        let sheet = self.sheet;
+        let answer = writer::check(sheet);
+        match answer {
+            Verdict::Refused(_, _) => Begun {
+                session: self,
+                answer,
+            },
+            Verdict::Accepted => {
+                let session = Session { sheet, shown: 0 };
+                Begun { session, answer }
+            }
+        }
+    }
+
+    // The number of tracks still running: the rows not yet shown.
+    pub fn running(self) -> Rolled
+        ensures { λ r. ⌜ rolled r ≡ runningOf (checkOf (self .sheet)) self ⌝ }
+    {
+        let sheet = self.sheet;
+        let v = writer::check(sheet);
+        match v {
+            Verdict::Refused(number, place) => Rolled::Refused(number, place),
+            Verdict::Accepted => {
+                let all = sheet.ntracks;
+                let past = least(self.shown, all);
+                let left = all - past;
+                Rolled::Rows(left)
+            }
+        }
+    }
+}

@@ -1,0 +1,9 @@
+pub mod Stores
+pub mod Queue
+pub mod Ending
+pub mod Entering
+pub mod Meeting
+pub mod ToDo
+pub mod Run
+pub mod Turns
+pub mod Closing

@@ -1,0 +1,4 @@
+pub mod State
+pub mod Busy
+pub mod ToDo
+pub mod Run

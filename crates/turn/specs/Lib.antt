@@ -1,0 +1,4 @@
+pub mod Listed
+pub mod Counts
+pub mod LookedAgain
+pub mod Ended
