@@ -1,0 +1,140 @@
+-- Demand 3: `demand`; `demand-bytes` for a sheet's bytes, `demand-records` for records handed in. The statement is specs/Demand.antt.
+use mathlib.Core.Path.{_≡_, refl, sym, ap, _∙_, subst}
+use mathlib.Core.Bool.{Bool, true, false}
+use mathlib.Core.List.{List, _++_, Permᴰ·symm}
+use Prim.Native.Nat.{ℕ, _*_, _≤_, _<_}
+use native.Mathlib.Omega.{arith}
+use borrow.Author.Tests.{lt-ltb, le-ltb, ltb-true, ltb-false}
+use lib.Dec.{ltb}
+use lib.ListN.{length, take, drop}
+use lib.Seq.{take-append-seam}
+use Rattle.layout.specs.Bytes.{AllBytes}
+use Rattle.sheet.specs.declared.Command.{Command}
+use Rattle.sheet.specs.declared.Sheet.{Sheet}
+use Rattle.sheet.specs.Accepted.{Accepted}
+use Rattle.sheet.specs.Format.{encodeAll}
+use Rattle.sheet.specs.HandedIn.{handedIn, checkOf}
+use Rattle.sheet.specs.Listing.{Listing, listing}
+use Rattle.sheet.specs.Ordered.{commandsIn}
+use Rattle.sheet.specs.Returned.{Returned, accepted}
+use Rattle.sheet.specs.Scan.{verdictOf, commandsOf}
+use Rattle.sheet.proofs.Decoded.{accepted-bytes, accepted-fits}
+use Rattle.sheet.proofs.Lists.{perm-mem}
+use Rattle.sheet.proofs.Order.{Reordered, reordered, accepted-reordered}
+use Rattle.sheet.proofs.RoundTrip.{AllFit, Fit, all-fit, accepted-exactly, order-verdict, read-back, listed}
+use Rattle.rule.specs.declared.Row.{Row}
+use Rattle.rule.specs.RowBytes.{rollBytes}
+use Rattle.rule.specs.Selection.{rollOf}
+use Rattle.rule.proofs.Existence.{roll-of, roll-is, roll-length}
+use Rattle.rule.proofs.OneRoll.{rows-unique}
+use Rattle.rule.proofs.OrderFree.{meets-order, roll-order}
+use Rattle.rule.proofs.RowBytes.{roll-bytes-length}
+use Rattle.rule.proofs.Starts.{accepted-proper}
+use Rattle.cells.specs.Grid.{Figure}
+use Rattle.plain_run.specs.declared.Rolled.{Rolled}
+use Rattle.plain_run.specs.Rolled.{rolled, rollReturns, after, Rolls}
+use Rattle.grid_run.specs.declared.GridRolled.{GridRolled}
+use Rattle.grid_run.specs.declared.GridRolled.the-variants.{Rows, Refused}
+use Rattle.grid_run.specs.GridRolled.{gridRolled, CountIn, GridRolls}
+use Rattle.grid_run.specs.Demand.{Given, in-bytes, in-records, Outcome, too-short, written, Reports, Demand3}
+use Rattle.grid_run.proofs.Outcome.{figure-is, figured}
+use Rattle.grid_run.proofs.Counts.{cellsEntered, is-counted, the-count, count-few, count-same}
+
+-- ---- what a run of an accepted sheet comes to
+
+module _ (S : Listing) (acc : Accepted S) (before exit : List ℕ) (r : Returned) (answer : r ≡ rollReturns accepted S (length before)) (buffer : exit ≡ after (rollReturns accepted S (length before)) S before) where
+  lent-short : length before < 29 * length (S .tracks) → Outcome (rollOf S) before exit r
+  unfolding rollReturns after
+  lent-short h =
+      let e = roll-length S acc in
+      let t = lt-ltb (length before) (29 * length (S .tracks)) h in
+      subst (Outcome (rollOf S) before exit) (sym (answer ∙ rw (t, e) refl)) (too-short (rw e h) (rw t at buffer))
+
+  lent-long : 29 * length (S .tracks) ≤ length before → Outcome (rollOf S) before exit r
+  unfolding rollReturns after
+  lent-long h =
+      let e = roll-length S acc in
+      let t = le-ltb (length before) (29 * length (S .tracks)) h in
+      subst (Outcome (rollOf S) before exit) (sym (answer ∙ rw (t, e) refl)) (written (rw e h) (rw e (rw t at buffer)))
+
+  outcome : Outcome (rollOf S) before exit r
+  outcome = go (ltb (length before) (29 * length (S .tracks))) refl
+    where
+      go : (b : Bool) → ltb (length before) (29 * length (S .tracks)) ≡ b → Outcome (rollOf S) before exit r
+      go true e = lent-short (ltb-true (length before) (29 * length (S .tracks)) e)
+      go false e = lent-long (ltb-false (length before) (29 * length (S .tracks)) e)
+
+-- the rows stand at the buffer's start
+front : {roll : List Row} {before exit : List ℕ} {r : Returned} → Outcome roll before exit r → 29 * length roll ≤ length before → take (29 * length roll) exit ≡ rollBytes roll
+front (too-short h e) k = absurd (omega arith)
+front {roll} {before} (written h e) k =
+    ap (take (29 * length roll)) e
+    ∙ ap (λ (n : ℕ). take n (rollBytes roll ++ drop (29 * length roll) before)) (sym (roll-bytes-length roll))
+    ∙ take-append-seam (rollBytes roll) (drop (29 * length roll) before)
+
+-- ---- a sheet in any order
+
+module _ (l : List Command) (fit : AllFit l) (ok : verdictOf (encodeAll l) ≡ accepted) where
+  abbrev S : Listing
+  S = listing l
+
+  acc : Accepted S
+  acc = accepted-exactly fit .0 ok
+
+  is-accepted : (v : Returned) (T : Listing) → Given l v T → v ≡ accepted
+  is-accepted v T (in-bytes k p) = order-verdict p fit ok
+  is-accepted v T (in-records s p) = order-verdict p fit ok
+
+  same-records : (v : Returned) (T : Listing) → Given l v T → Reordered S T
+  same-records v T (in-bytes k p) =
+      subst (λ (z : List Command). Reordered S (listing z)) (sym (read-back {l = k} (λ c m. fit c (perm-mem (Permᴰ·symm p) c m)))) (reordered p)
+  same-records v T (in-records s p) = subst (λ (z : Listing). Reordered S z) (listed (handedIn s)) (reordered p)
+
+  module _ (v : Returned) (T : Listing) (i : Given l v T) where
+    p : Reordered S T
+    p = same-records v T i
+
+    plainly : (before exit : List ℕ) (r : Rolled) → Rolls v T before exit r → Outcome (rollOf S) before exit (rolled r)
+    plainly before exit r h =
+        let k = subst (λ (z : Returned). Rolls z T before exit r) (is-accepted v T i) h in
+        subst (λ (z : List Row). Outcome z before exit (rolled r)) (sym (roll-order p acc)) (outcome T (accepted-reordered p acc) before exit (rolled r) (k .answer) (k .buffer))
+
+    gridly : (g : ℕ) → Figure g → (before exit : List ℕ) (r : GridRolled) → GridRolls v T g before exit r → Outcome (rollOf S) before exit (gridRolled r) × Reports (cellsEntered S g) r
+    gridly g f before exit r h =
+        let k = subst (λ (z : Returned). GridRolls z T g before exit r) (is-accepted v T i) h in
+        let e = figured T g (length before) (figure-is f) in (
+          subst (λ (z : List Row). Outcome z before exit (gridRolled r)) (sym (roll-order p acc))
+              (outcome T (accepted-reordered p acc) before exit (gridRolled r) (k .answer ∙ e) (k .buffer ∙ ap (λ (z : Returned). after z T before) e)),
+          reports r (k .cells),
+        )
+      where
+        reports : (r : GridRolled) → CountIn T g r → Reports (cellsEntered S g) r
+        reports (Rows n cells) c = the-count (accepted-reordered p acc) f c ∙ sym (count-same acc g p)
+        reports (Refused n q) c = tt
+
+  pub demand : Demand3 l
+  demand =
+      record {
+        roll = rollOf S;
+        is-roll = roll-of S acc;
+        no-other-roll = roll-is S acc;
+        no-other-set = λ q m r. (rows-unique S q (rollOf S) (accepted-proper acc) m (roll-of S acc .meets) r, rows-unique S (rollOf S) q (accepted-proper acc) (roll-of S acc .meets) m r);
+        one-each = roll-length S acc;
+        cells = cellsEntered S;
+        counted = λ g f. is-counted acc f;
+        no-other-count = λ g n f c. the-count acc f c;
+        few = λ g f. count-few acc f;
+        all-accepted = is-accepted;
+        one-rule = λ v T i q. meets-order (same-records v T i);
+        by-plain = plainly;
+        by-grid = λ v T g i f. gridly v T i g f;
+        equal = λ v w T T′ g i j f a a′ b b′ p r h k m n. front (plainly v T i a a′ p h) m ∙ sym (front (gridly w T′ j g f b b′ r k .0) n);
+      }
+
+-- an accepted sheet's bytes are its commands, each within its widths, and 00
+pub demand-bytes : (s : List ℕ) → AllBytes s → verdictOf s ≡ accepted → Demand3 (commandsOf s)
+demand-bytes s b e = demand (commandsOf s) (accepted-fits s b e) (sym (ap verdictOf (accepted-bytes s b e)) ∙ e)
+
+-- records' fields are within their widths, as their types say
+pub demand-records : (s : Sheet) → Fit (handedIn s) → checkOf s ≡ accepted → Demand3 (commandsIn (handedIn s))
+demand-records s f e = demand (commandsIn (handedIn s)) (all-fit (handedIn s) f) e

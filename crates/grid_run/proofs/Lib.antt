@@ -1,0 +1,4 @@
+pub mod Outcome
+pub mod Counts
+pub mod Demand
+pub mod TwoListings

@@ -1,0 +1,40 @@
+-- What two listings give, the first by the plain run and the second by the grid run.
+use mathlib.Core.Path.{_≡_}
+use mathlib.Core.Logic.{_↔_}
+use mathlib.Core.List.{List, List·Permᴰ}
+use Prim.Native.Nat.{ℕ, _≤_}
+use lib.ListN.{length, take}
+use Rattle.sheet.specs.Format.{encodeAll}
+use Rattle.sheet.specs.Listing.{listing}
+use Rattle.sheet.specs.Returned.{accepted}
+use Rattle.sheet.specs.Scan.{verdictOf, commandsOf}
+use Rattle.cells.specs.Grid.{Figure}
+use Rattle.plain_run.specs.Rolled.{Rolls, needed}
+use Rattle.grid_run.specs.declared.Exchanged.{Exchanged}
+use Rattle.grid_run.specs.GridRolled.{GridRolls}
+
+-- the second lists the commands of the first in another order; each is its commands and then 00
+pub record OtherOrder (first second : List ℕ) : Type 0 where
+  pub first-whole : first ≡ encodeAll (commandsOf first)
+  pub second-whole : second ≡ encodeAll (commandsOf second)
+  pub order : List·Permᴰ (commandsOf first) (commandsOf second)
+
+-- the listings, the figure, and the two buffers at entry
+pub record Lent : Type 0 where
+  pub first : List ℕ
+  pub second : List ℕ
+  pub figure : ℕ
+  pub plain : List ℕ
+  pub grid : List ℕ
+
+-- both accepted or neither; "The rolls written are equal row for row" where both buffers are long enough
+pub record Agree (e : Lent) (plain grid : List ℕ) : Type 0 where
+  pub alike : (verdictOf (e .first) ≡ accepted) ↔ (verdictOf (e .second) ≡ accepted)
+  pub equal : let S = listing (commandsOf (e .first)) in
+      verdictOf (e .first) ≡ accepted → Figure (e .figure) → needed S ≤ length (e .plain) → needed S ≤ length (e .grid) → take (needed S) plain ≡ take (needed S) grid
+
+-- what each run answers and writes, and that they agree
+pub record Exchanges (e : Lent) (plain grid : List ℕ) (r : Exchanged) : Type 0 where
+  pub by-plain : Rolls (verdictOf (e .first)) (listing (commandsOf (e .first))) (e .plain) plain (r .plain)
+  pub by-grid : GridRolls (verdictOf (e .second)) (listing (commandsOf (e .second))) (e .figure) (e .grid) grid (r .grid)
+  pub agree : OtherOrder (e .first) (e .second) → Agree e plain grid

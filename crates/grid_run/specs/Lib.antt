@@ -1,0 +1,3 @@
+pub mod GridRolled
+pub mod Exchanged
+pub mod Demand
