@@ -16,6 +16,18 @@ use timing::least_of_each;
 const FORM: usize = 5121;
 const ROLL: usize = 7424;
 
+/// The stack that a plain run may use.
+const STACK: usize = 512 * 1024;
+
+/// A run that needs more stack ends the program.
+fn plain_in_little_stack(sheets: &[Timed]) {
+    std::thread::scope(|scope| {
+        let thread = std::thread::Builder::new().stack_size(STACK);
+        let run = |timed: &Timed| drop(black_box(proved::plain(&timed.bytes, &mut vec![0; ROLL])));
+        thread.spawn_scoped(scope, move || sheets.iter().for_each(run)).expect("a thread");
+    });
+}
+
 fn order_row(timed: &Timed) {
     let (name, bytes) = (timed.name(), &timed.bytes);
     let mut ours = [0; FORM];
@@ -59,6 +71,7 @@ fn main() {
     }
     println!("plain run, microseconds: proved, the same algorithm in Rust, ratio; the outside sweep, ratio");
     let sheets = sheets::all();
+    plain_in_little_stack(&sheets);
     sheets.iter().for_each(plain_row);
     grid_rows::print(&sheets);
 }

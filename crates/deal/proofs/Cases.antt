@@ -21,8 +21,7 @@ use Rattle.pending.specs.Pending.{reachedOf, eventOf}
 use Rattle.sweep.specs.State.{spotAt}
 use Rattle.sweep.specs.Run.{Way}
 use Rattle.enter.specs.Arrived.{Arrived}
-use Rattle.deal.specs.Due.{Popping, Due, Reached, Dealt}
-use Rattle.deal.specs.declared.Tally.{Tally}
+use Rattle.deal.specs.Due.{Due, Reached, Dealt}
 use Rattle.deal.proofs.Deals.{cell-way, cell-dealt, cell-room}
 
 -- ---- of one event

@@ -1,12 +1,12 @@
 -- What each event leaves. Main theorems: `cell-dealt`, `again-dealt`, `end-dealt`.
 use mathlib.Core.List.{List, _∷_}
 use mathlib.Core.Bool.{Bool, false}
-use mathlib.Core.Logic.{_⊎_, inl, inr}
-use mathlib.Core.Path.{_≡_, refl, sym, ap, _∙_, subst}
+use mathlib.Core.Logic.{inl, inr}
+use mathlib.Core.Path.{_≡_, sym, ap, _∙_, subst}
 use Prim.Native.Nat.{ℕ, _+_, _*_, _-_, _≤_, _<_}
 use native.Mathlib.Decide.{ℕ-discrete}
 use native.Mathlib.Omega.{arith}
-use lib.ListN.{length, getD, set, take}
+use lib.ListN.{length, getD, set}
 use lib.Seq.{sets, length-sets}
 use Rattle.exact.specs.Time.{fraction}
 use Rattle.sheet.specs.declared.Track.{Track}
@@ -20,7 +20,6 @@ use Rattle.rule.specs.Motion.{Inside}
 use Rattle.rule.specs.RowBytes.{rowBytes}
 use Rattle.lines.specs.Lines.{trackAt}
 use Rattle.lines.proofs.Places.{tracks-count}
-use Rattle.causes.specs.declared.Cause.{Cause}
 use Rattle.causes.specs.Cause.{tipAt, candOf, Stands, Fine}
 use Rattle.causes.specs.Looked.{Tables}
 use Rattle.table.specs.Table.{causeAt, baseAt}
@@ -37,15 +36,14 @@ use Rattle.heap.specs.Queue.{Pending, Absent, Pushed}
 use Rattle.pending.specs.Pending.{pendingKey}
 use Rattle.sweep.specs.State.{spotAt, cellsAt}
 use Rattle.sweep.specs.Run.{State, Way, Going, LiveKept}
-use Rattle.sweep.specs.ToDo.{Sure, toDo}
-use Rattle.sweep.proofs.Queue.{queue-popped, none-out}
+use Rattle.sweep.specs.ToDo.{Sure}
+use Rattle.sweep.proofs.Queue.{none-out}
 use Rattle.sweep.proofs.Run.{way-room, way-count}
 use Rattle.sweep.proofs.ToDo.{less-cells, less-stale, less-rows}
 use Rattle.sweep.proofs.Turns.{event-here, event-runs, event-tip, event-key, way-next, again-sure, again-state, ended-inside, ended-row, ended-rows, ended-state}
 use Rattle.events.specs.Happened.{Again, Finished}
 use Rattle.enter.specs.Arrived.{Arrived}
-use Rattle.deal.specs.Due.{Popping, Reached, Dealt}
-use Rattle.deal.specs.declared.Tally.{Tally}
+use Rattle.deal.specs.Due.{Popping, Dealt}
 
 -- of the same track, by the same side
 pub finished-of : {a b : Track} {i k : ℕ} {table over out over′ out′ : List ℕ} → a ≡ b → Finished a i k table over out over′ out′ → Finished b i k table over out over′ out′

@@ -1,8 +1,8 @@
 -- The next event of the grid run, and what is done where something is reached.
 use mathlib.Core.Path.{_≡_}
 use mathlib.Core.List.{List}
-use Prim.Native.Nat.{ℕ, _+_, _*_, _≤_, _<_}
-use lib.ListN.{length, getD, set}
+use Prim.Native.Nat.{ℕ, _*_, _≤_, _<_}
+use lib.ListN.{length, set}
 use lib.Seq.{sets}
 use Rattle.sheet.specs.declared.Track.{Track}
 use Rattle.rule.specs.declared.Row.{Row}

@@ -2,7 +2,7 @@
 ghost use mathlib.Core.Path.{_≡_};
 ghost use Prim.Native.Nat.{_+_, _*_, _≤_, _<_};
 ghost use lib.ListN.{length};
-ghost use Rattle.lines.specs.Lines.{trackAt, Tracked};
+ghost use Rattle.lines.specs.Lines.{Tracked};
 ghost use Rattle.causes.specs.Cause.{Fine};
 ghost use Rattle.causes.specs.Looked.{Tables};
 ghost use Rattle.table.specs.Table.{causeAt, baseAt};

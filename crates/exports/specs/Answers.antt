@@ -1,14 +1,24 @@
 -- Answers as two numbers, for callers in other languages, and what the calls on bytes give.
+use mathlib.Core.Path.{_≡_}
 use mathlib.Core.List.{List}
-use Prim.Native.Nat.{ℕ}
-use lib.ListN.{length}
+use Prim.Native.Nat.{ℕ, _+_, min}
+use lib.ListN.{length, take, drop}
 use Rattle.sheet.specs.Returned.{Returned, accepted, gives, refused}
-use Rattle.sheet.specs.Listing.{listing}
+use Rattle.sheet.specs.Listing.{Listing, listing}
 use Rattle.sheet.specs.Scan.{verdictOf, commandsOf}
 use Rattle.sheet.specs.Ordered.{orderedForm}
 use Rattle.reader.specs.Reading.{recordsOf}
 use Rattle.writer.specs.Written.{orShort, after}
+use Rattle.rule.specs.declared.Row.{Row}
+use Rattle.rule.specs.Rows.{timeOf}
+use Rattle.rule.specs.Selection.{rollOf}
+use Rattle.cells.specs.Grid.{side}
+use Rattle.cells.specs.Touched.{Counted}
 use Rattle.plain_run.specs.Rolled as Rolled
+use Rattle.grid_run.specs.GridRolled.{gridReturns}
+use Rattle.listing.specs.CellIds.{CellIds}
+use Rattle.listing.specs.Listed as Listed
+use Rattle.session.specs.Stepping.{advanceReturns, advanceBuffer}
 
 -- the table's number, 0 where nothing is refused
 abbrev pub number : Returned → ℕ
@@ -35,3 +45,43 @@ plainReturns s lent = Rolled.rollReturns (verdictOf s) (listing (commandsOf s)) 
 
 abbrev pub plainAfter : List ℕ → List ℕ → List ℕ
 plainAfter s lent = Rolled.after (plainReturns s (length lent)) (listing (commandsOf s)) lent
+
+-- reading a sheet and writing its roll by the grid of figure g
+abbrev pub gridAnswer : List ℕ → ℕ → ℕ → Returned
+gridAnswer s g lent = gridReturns (verdictOf s) (listing (commandsOf s)) g lent
+
+abbrev pub gridAfter : List ℕ → ℕ → List ℕ → List ℕ
+gridAfter s g lent = Rolled.after (gridAnswer s g (length lent)) (listing (commandsOf s)) lent
+
+-- "It carries this count in its result"; 0 where the call is refused
+abbrev pub CellsEntered : Listing → ℕ → ℕ → Returned → Type 0
+CellsEntered S g cells accepted = cells ≡ 0
+CellsEntered S g cells (gives n) = Counted (timeOf (rollOf S)) g (S .tracks) cells
+CellsEntered S g cells (refused n p) = cells ≡ 0
+
+-- reading a sheet and writing the ids of one cell, whose order is open
+abbrev pub cellAnswer : List ℕ → ℕ → ℕ → ℕ → List ℕ → ℕ → Returned
+cellAnswer s g column row ids lent = Listed.listReturns (Listed.andCell (verdictOf s) (Listed.cellCheck g column row)) (length ids) lent
+
+pub record CellsListed (s : List ℕ) (g column row : ℕ) (before exit : List ℕ) (first second : ℕ) : Type 0 where
+  pub ids : List ℕ
+  pub are : let S = listing (commandsOf s) in Listed.andCell (verdictOf s) (Listed.cellCheck g column row) ≡ accepted → CellIds (timeOf (rollOf S)) (S .tracks) (side g) (Listed.cell column row) ids
+  pub answer : first ≡ number (cellAnswer s g column row ids (length before))
+  pub number-of-ids : second ≡ other (cellAnswer s g column row ids (length before))
+  pub buffer : exit ≡ Listed.after (cellAnswer s g column row ids (length before)) ids before
+
+-- a session over a sheet's bytes with so many rows shown: "the next n rows, or those left if fewer"
+abbrev pub rowsAfter : List ℕ → ℕ → ℕ → List Row
+rowsAfter s shown n = take n (drop shown (rollOf (listing (commandsOf s))))
+
+abbrev pub advanceAnswer : List ℕ → ℕ → ℕ → ℕ → Returned
+advanceAnswer s shown n lent = advanceReturns (verdictOf s) (rowsAfter s shown n) lent
+
+abbrev pub advanceAfter : List ℕ → ℕ → ℕ → List ℕ → List ℕ
+advanceAfter s shown n lent = advanceBuffer (advanceAnswer s shown n (length lent)) (rowsAfter s shown n) lent
+
+-- "A session handed in with more rows shown than its roll has counts as one with all shown"; a refused call leaves the number as it came
+abbrev pub shownAfter : List ℕ → ℕ → Returned → ℕ
+shownAfter s shown accepted = shown
+shownAfter s shown (gives k) = min shown (length (rollOf (listing (commandsOf s)))) + k
+shownAfter s shown (refused n p) = shown

@@ -1,17 +1,14 @@
 -- The tables before the first tip begins, and when all have begun. Main theorems: `blank-starts`, `begun-going`.
-use mathlib.Core.List.{List, [], _∷_, List·Memᴰ·not-nil}
-use mathlib.Core.Path.{_≡_, refl, sym, ap, _∙_, subst}
-use Prim.Native.Nat.{ℕ, zero, suc, _+_, _*_, _/_, _≤_, _<_}
+use mathlib.Core.List.{List, [], List·Memᴰ·not-nil}
+use mathlib.Core.Path.{_≡_, refl, sym, ap, subst}
+use Prim.Native.Nat.{ℕ, zero, suc, _+_, _*_, _/_, _<_}
 use native.Mathlib.Omega.{arith}
-use lib.ListN.{length, getD, replicate, length-replicate, take}
+use lib.ListN.{length, getD, replicate, length-replicate}
 use Rattle.sheet.specs.Listing.{Listing, _∈_}
-use Rattle.rule.specs.declared.Row.{Row}
-use Rattle.rule.specs.Selection.{rollOf}
 use Rattle.rule.proofs.Turn.{progress-start}
 use Rattle.row.proofs.Roll.{written-none}
 use Rattle.lines.specs.Lines.{Lined}
 use Rattle.lines.proofs.Places.{tracks-count}
-use Rattle.causes.specs.Looked.{Named}
 use Rattle.cells.specs.declared.Cell.{Cell}
 use Rattle.cells.specs.Grid.{Figure, g1, g2, g4, g8, g16, g32, side}
 use Rattle.heap.proofs.Tips.{none-pending}

@@ -1,18 +1,16 @@
 -- The loop over the events. Main theorems: `pop-asked`, `is-due`, `all-ran`.
 use mathlib.Core.List.{List}
-use mathlib.Core.Logic.{_⊎_, inl, inr}
-use mathlib.Core.Path.{_≡_, refl, sym, ap, _∙_, subst}
-use Prim.Native.Nat.{ℕ, _+_, _*_, _-_, _≤_, _<_}
+use mathlib.Core.Logic.{inl, inr}
+use mathlib.Core.Path.{_≡_, sym, subst}
+use Prim.Native.Nat.{ℕ, _*_, _-_, _≤_, _<_}
 use native.Mathlib.Decide.{ℕ-discrete, decLt}
 use native.Mathlib.Omega.{arith}
-use lib.ListN.{length, getD, take}
+use lib.ListN.{length, getD}
 use Rattle.sheet.specs.Listing.{Listing}
 use Rattle.lines.specs.Lines.{Tracked}
 use Rattle.lines.proofs.Places.{tracks-count}
-use Rattle.rule.specs.declared.Row.{Row}
 use Rattle.table.specs.Table.{causeAt}
 use Rattle.turn.proofs.Rolling.{written-end}
-use Rattle.cells.specs.declared.Cell.{Cell}
 use Rattle.cells.specs.Grid.{side}
 use Rattle.heap.specs.Queue.{Pending, Present, Popped}
 use Rattle.sweep.specs.State.{spotAt, Rows}

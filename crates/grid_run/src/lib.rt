@@ -20,8 +20,8 @@ pub enum GridRolled {
 
 // What the plain run gives of one listing, and the grid run of another.
 pub struct Exchanged {
-    plain: Rolled,
-    grid: GridRolled,
+    pub plain: Rolled,
+    pub grid: GridRolled,
 }
 
 // Whether g is one of the six figures.

@@ -2,7 +2,7 @@
 use mathlib.Core.List.{List, [], _∷_, List·Memᴰ·head, List·Memᴰ·tail, List·Memᴰ·cases-cons, List·Memᴰ·not-nil}
 use mathlib.Core.Logic.{_⊎_, inl, inr}
 use mathlib.Core.Path.{_≡_, refl, sym, ap, _∙_, subst}
-use Prim.Native.Nat.{ℕ, zero, suc, _+_, _≤_, _<_}
+use Prim.Native.Nat.{ℕ, suc, _≤_, _<_}
 use native.Mathlib.Decide.{ℕ-discrete}
 use native.Mathlib.Omega.{arith}
 use lib.ListN.{length, getD, take}
@@ -11,7 +11,6 @@ use lib.Dec.{eqb}
 use Rattle.exact.specs.Time.{Time, _≈ᵗ_, zeroᵗ}
 use Rattle.exact.proofs.TimeOrder.{≈ᵗ-sym}
 use Rattle.sheet.specs.declared.Track.{Track}
-use Rattle.sheet.specs.Accepted.{Accepted}
 use Rattle.sheet.specs.HandedIn.{noTrack}
 use Rattle.sheet.specs.Listing.{Listing, _∈_}
 use Rattle.rule.specs.declared.Row.{Row}
@@ -23,7 +22,7 @@ use Rattle.rule.proofs.OneRoll.{timeOf-row}
 use Rattle.rule.proofs.Tests.{eqb-self, eqb-other}
 use Rattle.lines.proofs.Places.{tracks-count}
 use Rattle.causes.specs.Cause.{tipAt}
-use Rattle.causes.specs.Looked.{endAt, Gone}
+use Rattle.causes.specs.Looked.{endAt}
 use Rattle.cells.specs.declared.Cell.{Cell}
 use Rattle.cells.specs.Grid.{side}
 use Rattle.cells.specs.Touched.{CellsOf, Counted, no-tracks, and-track}

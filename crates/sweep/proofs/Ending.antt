@@ -29,7 +29,7 @@ use Rattle.rule.proofs.OnSheet.{rim-inside, contact-of, contact-hit}
 use Rattle.rule.proofs.Places.{RunsAt, best, turn-seen, grid-seen-at}
 use Rattle.rule.proofs.Selection.{up-one, up-fresh}
 use Rattle.rule.proofs.Turn.{Formal, Live, beats-step, Progress}
-use Rattle.causes.specs.Cause.{tipAt, wallAt, candOf}
+use Rattle.causes.specs.Cause.{tipAt, candOf}
 use Rattle.causes.specs.Looked.{Near, endAt, Named}
 use Rattle.causes.proofs.Near.{near-on}
 use Rattle.table.specs.Table.{causeAt}

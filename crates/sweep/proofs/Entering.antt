@@ -1,22 +1,19 @@
 -- A tip enters its next cell. Main theorems: `next-entered` and `next-ahead` (nothing could have ended it before), and the state with one cell more: `marked-enter`, `listed-enter`, `placed-enter`.
 use mathlib.Core.List.{List, [], _∷_, List·Memᴰ·head, List·Memᴰ·tail, List·Memᴰ·cases-cons}
 use mathlib.Core.Logic.{_⊎_, inl, inr, _≢_}
-use mathlib.Core.Path.{_≡_, refl, sym, ap, _∙_, subst}
+use mathlib.Core.Path.{_≡_, sym, ap, _∙_, subst}
 use Prim.Native.Nat.{ℕ, zero, suc, _+_, _*_, _≤_, _<_}
 use native.Mathlib.Decide.{ℕ-discrete}
 use native.Mathlib.Omega.{arith}
 use lib.ListN.{length, getD, set, length-set}
-use lib.Seq.{getD-set-same, getD-set-other}
-use Rattle.exact.specs.Time.{Time, _≤ᵗ_, _<ᵗ_, zeroᵗ}
+use Rattle.exact.specs.Time.{Time, _≤ᵗ_, _<ᵗ_}
 use Rattle.exact.proofs.TimeOrder.{≤ᵗ-trans, ≤ᵗ-or-<ᵗ, <ᵗ→≤ᵗ, ≈ᵗ→≤ᵗ, ≤ᵗ-refl, <ᵗ-≤ᵗ-trans, <ᵗ-irrefl, zero-first}
 use Rattle.sheet.specs.declared.Track.{Track}
-use Rattle.sheet.specs.declared.Wall.{Wall}
 use Rattle.sheet.specs.Accepted.{Accepted}
 use Rattle.sheet.specs.HandedIn.{noTrack, noWall}
 use Rattle.sheet.specs.Listing.{Listing, _∈_}
 use Rattle.sheet.proofs.Lists.{mem-at}
 use Rattle.rule.specs.declared.Row.{Row}
-use Rattle.rule.specs.Motion.{Same}
 use Rattle.rule.specs.Causes.{upTo}
 use Rattle.rule.specs.Contact.{when, hit, contact}
 use Rattle.rule.specs.EdgeTime.{rim}
@@ -28,7 +25,7 @@ use Rattle.causes.specs.Looked.{Named}
 use Rattle.table.specs.Table.{causeAt}
 use Rattle.cells.specs.declared.Cell.{Cell}
 use Rattle.cells.specs.Grid.{Figure, side, InCell}
-use Rattle.cells.proofs.Cut.{Cut, _≤ᶜ_, _<ᶜ_, past, not-past, by-past, ≤ᶜ-or-<ᶜ, ≤ᶜ-trans, ≤ᶜ-<ᶜ-trans, <ᶜ-≤ᶜ-trans, after-mono, sooner-by}
+use Rattle.cells.proofs.Cut.{Cut, _≤ᶜ_, _<ᶜ_, past, not-past, by-past, ≤ᶜ-or-<ᶜ, ≤ᶜ-trans, ≤ᶜ-<ᶜ-trans, after-mono, sooner-by}
 use Rattle.cells.proofs.Count.{first, first-in, stay-rim, figure-side}
 use Rattle.cells.proofs.Entered.{Entered, entered-next}
 use Rattle.cells.proofs.Entry.{entry, exit, cell-entry, point-of, past-before, before-past}
@@ -38,7 +35,8 @@ use Rattle.heap.specs.Key.{NotAfter}
 use Rattle.pending.specs.Pending.{pendingKey}
 use Rattle.pending.proofs.Order.{own-entry, leads-entry}
 use Rattle.buckets.specs.Members.{members, Joined}
-use Rattle.sweep.specs.State.{codeOf, spotAt, cellsAt, total, Tried, Looked, Marked, Ahead, Placed, Listed}
+use Rattle.sweep.specs.State.{codeOf, spotAt, cellsAt, total, Looked, Marked, Ahead, Placed, Listed}
+use Rattle.sweep.proofs.OneMore.{other-cells, own-cells}
 use Rattle.sweep.proofs.Queue.{none-out}
 use Rattle.sweep.proofs.Ending.{cell-near, been-in}
 
@@ -155,12 +153,6 @@ module _ (es : List (List Cell)) (i : ℕ) (room : i < length es) (k : Cell) whe
   abbrev es′ : List (List Cell)
   es′ = set es i (k ∷ cellsAt es i)
 
-  pub other-cells : (j : ℕ) → j ≢ i → cellsAt es′ j ≡ cellsAt es j
-  other-cells j n = getD-set-other es i j (k ∷ cellsAt es i) [] n
-
-  pub own-cells : cellsAt es′ i ≡ k ∷ cellsAt es i
-  own-cells = getD-set-same es i (k ∷ cellsAt es i) [] room
-
   -- a cell of the tip at j is the new one, of the tip at i, or one of before
   which : (j : ℕ) (c : Cell) → c ∈ cellsAt es′ j → ((j ≡ i) × (c ≡ k)) ⊎ (c ∈ cellsAt es j)
   which j c m = go (ℕ-discrete j i)
@@ -170,8 +162,8 @@ module _ (es : List (List Cell)) (i : ℕ) (room : i < length es) (k : Cell) whe
       one e (inr x) = inr (subst (λ (z : ℕ). c ∈ cellsAt es z) (sym e) x)
 
       go : Dec (j ≡ i) → ((j ≡ i) × (c ≡ k)) ⊎ (c ∈ cellsAt es j)
-      go (yes e) = one e (List·Memᴰ·cases-cons (subst (λ (z : List Cell). c ∈ z) own-cells (subst (λ (z : ℕ). c ∈ cellsAt es′ z) e m)))
-      go (no n) = inr (subst (λ (z : List Cell). c ∈ z) (other-cells j n) m)
+      go (yes e) = one e (List·Memᴰ·cases-cons (subst (λ (z : List Cell). c ∈ z) (own-cells es i room k) (subst (λ (z : ℕ). c ∈ cellsAt es′ z) e m)))
+      go (no n) = inr (subst (λ (z : List Cell). c ∈ z) (other-cells es i room k j n) m)
 
   -- those in the cell have marks beside the tip that comes
   pub marked-enter : {b : ℕ} {marks : List ℕ} → i < 256 → b ≤ 256 → Marked es b marks → ((j : ℕ) → j < b → j ≢ i → k ∈ cellsAt es j → Named marks (256 * i) j) → Marked es′ b marks
@@ -194,8 +186,8 @@ module _ (es : List (List Cell)) (i : ℕ) (room : i < length es) (k : Cell) whe
   few-more f short p = go (ℕ-discrete p i)
     where
       go : Dec (p ≡ i) → length (cellsAt es′ p) ≤ 63
-      go (yes e) = subst (λ (z : ℕ). length (cellsAt es′ z) ≤ 63) (sym e) (omega (arith, ap length own-cells))
-      go (no n) = omega (arith, ap length (other-cells p n), f p)
+      go (yes e) = subst (λ (z : ℕ). length (cellsAt es′ z) ≤ 63) (sym e) (omega (arith, ap length (own-cells es i room k)))
+      go (no n) = omega (arith, ap length (other-cells es i room k p n), f p)
 
   -- it joins the list of the cell
   pub listed-enter : {b : ℕ} {lists lists′ : List ℕ} {count : ℕ} → i < b → codeOf k < 1024 → length (cellsAt es i) < 63 → Listed es b lists count → Joined lists count (codeOf k) i lists′ → Listed es′ b lists′ (count + 1)
@@ -251,10 +243,10 @@ module _ (es : List (List Cell)) (i : ℕ) (room : i < length es) (k : Cell) whe
       at-of : (j : ℕ) → j < b → getD over j 0 ≡ 0 → Dec (j ≡ i) → Entered (tipAt S j) (rim (tipAt S j)) s (spotAt spots′ j) (cellsAt es′ j)
       at-of j l x (yes u) =
           subst (λ (z : ℕ). Entered (tipAt S z) (rim (tipAt S z)) s (spotAt spots′ z) (cellsAt es′ z)) (sym u)
-          (subst (λ (z : Cell). Entered (tipAt S i) (rim (tipAt S i)) s z (cellsAt es′ i)) (sym own) (subst (λ (z : List Cell). Entered (tipAt S i) (rim (tipAt S i)) s k z) (sym own-cells) e))
+          (subst (λ (z : Cell). Entered (tipAt S i) (rim (tipAt S i)) s z (cellsAt es′ i)) (sym own) (subst (λ (z : List Cell). Entered (tipAt S i) (rim (tipAt S i)) s k z) (sym (own-cells es i room k)) e))
       at-of j l x (no u) =
           subst (λ (z : Cell). Entered (tipAt S j) (rim (tipAt S j)) s z (cellsAt es′ j)) (sym (others j u))
-          (subst (λ (z : List Cell). Entered (tipAt S j) (rim (tipAt S j)) s (spotAt spots j) z) (sym (other-cells j u)) (pl .at j l u x))
+          (subst (λ (z : List Cell). Entered (tipAt S j) (rim (tipAt S j)) s (spotAt spots j) z) (sym (other-cells es i room k j u)) (pl .at j l u x))
 
       ahead-of : (j : ℕ) → j < b → getD over j 0 ≡ 0 → Dec (j ≡ i) → Ahead S done s (tipAt S j) (spotAt spots′ j)
       ahead-of j l x (yes u) = subst (λ (z : ℕ). Ahead S done s (tipAt S z) (spotAt spots′ z)) (sym u) (subst (λ (z : Cell). Ahead S done s (tipAt S i) z) (sym own) o)

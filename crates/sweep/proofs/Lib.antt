@@ -1,3 +1,4 @@
+pub mod OneMore
 pub mod Stores
 pub mod Queue
 pub mod Ending

@@ -2,7 +2,7 @@
 use mathlib.Core.List.{List}
 use mathlib.Core.Logic.{_⊎_, inl, inr, _≢_}
 use mathlib.Core.Path.{_≡_, sym, ap, _∙_, subst}
-use Prim.Native.Nat.{ℕ, _+_, _*_, _-_, _≤_, _<_}
+use Prim.Native.Nat.{ℕ, _+_, _-_, _≤_, _<_}
 use native.Mathlib.Decide.{ℕ-discrete, decLt}
 use native.Mathlib.Omega.{arith}
 use lib.ListN.{length, getD, set}
@@ -14,7 +14,7 @@ use Rattle.table.specs.Table.{causeAt}
 use Rattle.cells.specs.declared.Cell.{Cell}
 use Rattle.heap.specs.declared.Key.{Key}
 use Rattle.heap.specs.Key.{NotAfter, keyAt, withKey, Leads}
-use Rattle.heap.specs.Queue.{Pending, Absent, Present, Pushed, Popped, Lowered}
+use Rattle.heap.specs.Queue.{Absent, Present, Pushed, Popped, Lowered}
 use Rattle.heap.proofs.KeyTable.{key-same, key-other}
 use Rattle.heap.proofs.Tips.{pushed-tip, pushed-absent, pushed-present, lowered-absent, lowered-present, popped-tip, popped-absent, popped-present, popped-leads}
 use Rattle.pending.specs.Pending.{pendingKey}

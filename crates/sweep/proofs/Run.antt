@@ -1,8 +1,8 @@
 -- From one state to the next. Main theorems: `way-open`, `way-next` (a tip sets out for a cell), `way-busy`, `way-end` (and arrives).
-use mathlib.Core.List.{List, [], _∷_}
-use mathlib.Core.Logic.{_⊎_, inl, inr, _≢_}
+use mathlib.Core.List.{List, _∷_}
+use mathlib.Core.Logic.{inl, inr, _≢_}
 use mathlib.Core.Path.{_≡_, refl, sym, ap, _∙_, subst}
-use Prim.Native.Nat.{ℕ, _+_, _*_, _-_, _≤_, _<_}
+use Prim.Native.Nat.{ℕ, _+_, _*_, _-_, _<_}
 use native.Mathlib.Decide.{ℕ-discrete}
 use native.Mathlib.Omega.{arith}
 use lib.ListN.{length, getD, set, length-set}
@@ -13,32 +13,27 @@ use Rattle.sheet.specs.HandedIn.{noTrack}
 use Rattle.sheet.specs.Listing.{Listing, _∈_}
 use Rattle.sheet.proofs.Lists.{mem-at}
 use Rattle.rule.specs.declared.Row.{Row}
-use Rattle.rule.specs.Causes.{by-rim, Below, _≼_}
-use Rattle.rule.specs.EdgeTime.{rim}
+use Rattle.rule.specs.Causes.{_≼_}
 use Rattle.rule.proofs.Turn.{Live}
-use Rattle.lines.specs.Lines.{Lined, trackAt}
+use Rattle.lines.specs.Lines.{trackAt}
 use Rattle.lines.proofs.Places.{tracks-count, track-read}
 use Rattle.causes.specs.declared.Cause.{Cause}
 use Rattle.causes.specs.Cause.{tipAt, candOf, Fine, Stands, Least}
-use Rattle.causes.specs.Looked.{Named, WallsLooked, FirstOfWalls, FirstOfTracks}
+use Rattle.causes.specs.Looked.{Named, WallsLooked, FirstOfWalls}
 use Rattle.causes.proofs.First.{first-of}
 use Rattle.causes.proofs.Looking.{walls-live}
 use Rattle.table.specs.Table.{numbersOf, causeAt}
 use Rattle.table.proofs.Stored.{stored-same, stored-other}
 use Rattle.cells.specs.declared.Cell.{Cell}
-use Rattle.cells.specs.Grid.{Figure, side}
-use Rattle.cells.proofs.Count.{first, first-good}
-use Rattle.cells.proofs.Entered.{Entered, entered-first, entered-few}
-use Rattle.cells.proofs.Walk.{next, Good}
-use Rattle.heap.specs.Queue.{Pushed, Popped}
+use Rattle.heap.specs.Queue.{Pushed}
 use Rattle.pending.specs.Pending.{pendingKey}
 use Rattle.buckets.specs.Members.{Joined}
-use Rattle.sweep.specs.State.{regionOf, codeOf, spotAt, cellsAt, total, Base, Looked, Marked, Ahead, Placed, Listed, Queued}
-use Rattle.sweep.specs.Busy.{Frame, Busy, Later}
+use Rattle.sweep.specs.State.{regionOf, codeOf, spotAt, cellsAt}
+use Rattle.sweep.specs.Busy.{Frame, Busy}
 use Rattle.sweep.specs.Run.{State, Way, LiveKept}
-use Rattle.sweep.proofs.Stores.{enter-walls, store-best, again-best, open-tip}
-use Rattle.sweep.proofs.Queue.{queue-kept, queue-pushed, queue-open, none-out}
-use Rattle.sweep.proofs.Entering.{count-room, other-cells, own-cells, marked-enter, listed-enter, placed-enter}
+use Rattle.sweep.proofs.Stores.{enter-walls}
+use Rattle.sweep.proofs.Queue.{queue-kept, queue-pushed}
+use Rattle.sweep.proofs.Entering.{count-room, marked-enter, listed-enter, placed-enter}
 
 -- ---- the tip at i sets out for cell k, looks at its walls, meets its tips, and is there
 

@@ -1,7 +1,7 @@
 -- Looked after a store. Main theorems: `store-best`, `mark-one`, `enter-walls`.
 use mathlib.Core.List.{List, [], _∷_, List·Memᴰ·cases-cons, List·Memᴰ·not-nil}
 use mathlib.Core.Logic.{_⊎_, inl, inr, _≢_}
-use mathlib.Core.Path.{_≡_, refl, sym, ap, _∙_, subst}
+use mathlib.Core.Path.{_≡_, sym, ap, _∙_, subst}
 use Prim.Native.Nat.{ℕ, _+_, _*_, _≤_, _<_}
 use native.Mathlib.Decide.{ℕ-discrete}
 use native.Mathlib.Omega.{arith}
@@ -10,7 +10,6 @@ use lib.Seq.{sets, length-sets, getD-set-same, getD-set-other}
 use Rattle.exact.specs.Time.{Time, fraction}
 use Rattle.sheet.specs.declared.Track.{Track}
 use Rattle.sheet.specs.declared.Wall.{Wall}
-use Rattle.sheet.specs.Accepted.{Accepted}
 use Rattle.sheet.specs.Listing.{Listing, _∈_}
 use Rattle.rule.specs.declared.Row.{Row}
 use Rattle.rule.specs.Causes.{by-side, by-rim, Below, _≼_}
@@ -28,6 +27,7 @@ use Rattle.table.proofs.Stored.{stored-same, stored-other}
 use Rattle.turn.proofs.Store.{at-store}
 use Rattle.cells.specs.declared.Cell.{Cell}
 use Rattle.cells.specs.Touched.{CellsOf}
+use Rattle.sweep.proofs.OneMore.{other-cells, own-cells}
 use Rattle.sweep.specs.State.{regionOf, cellsAt, Tried, Walls, Best, Base, Looked, Marked}
 
 -- ---- a better cause
@@ -196,12 +196,8 @@ module _ {S : Listing} {done : List Row} {s : ℕ} {es : List (List Cell)} {b : 
   pub best-more : {d c r : Cause} → Base S s (k ∷ cellsAt es i) a d → Stands S a r → candOf S r ≼ candOf S c → candOf S r ≼ candOf S d → Best S done s (cellsAt es i) marks i c → Best S done s (k ∷ cellsAt es i) marks i r
   best-more o t h g x = record { walls = walls-better t g (o .walls); at-tips = λ j m y z. beats-better h (x .at-tips j m y z) }
 
-  -- the cells of the others are as they were
-  other-cells : (j : ℕ) → j ≢ i → cellsAt es′ j ≡ cellsAt es j
-  other-cells j n = getD-set-other es i j (k ∷ cellsAt es i) [] n
-
-  own-cells : cellsAt es′ i ≡ k ∷ cellsAt es i
-  own-cells = getD-set-same es i (k ∷ cellsAt es i) [] (omega (arith, l, lk .begun-in, long))
+  in-cells : i < length es
+  in-cells = omega (arith, l, lk .begun-in, long)
 
   pub enter-walls : {base best : Cause} → Fine best → FirstOfWalls S a (regionOf s k) (causeAt table (256 + i)) base → Stands S a best → candOf S best ≼ candOf S (causeAt table i) → candOf S best ≼ candOf S base →
       Looked S done s es′ b (sets (sets table (7 * (256 + i)) (numbersOf base)) (7 * i) (numbersOf best)) over marks
@@ -218,12 +214,12 @@ module _ {S : Listing} {done : List Row} {s : ℕ} {es : List (List Cell)} {b : 
         };
         fine = at-store (λ (j : ℕ) (d : Cause). j < b → Fine d) one i best room (λ m. f) (λ j n m. subst Fine (sym (as-was j (in-few j m))) (lk .fine j m));
         best = at-store (λ (j : ℕ) (d : Cause). j < b → getD over j 0 ≡ 0 → Best S done s (cellsAt es′ j) marks j d) one i best room
-            (λ m r. subst (λ (z : List Cell). Best S done s z marks i best) (sym own-cells) (best-more (base-more w (lk .base i l runs)) t h g (lk .best i l runs)))
-            (λ j n m r. subst (λ (z : List Cell). Best S done s z marks j (causeAt one j)) (sym (other-cells j n)) (subst (λ (d : Cause). Best S done s (cellsAt es j) marks j d) (sym (as-was j (in-few j m))) (lk .best j m r)));
+            (λ m r. subst (λ (z : List Cell). Best S done s z marks i best) (sym (own-cells es i in-cells k)) (best-more (base-more w (lk .base i l runs)) t h g (lk .best i l runs)))
+            (λ j n m r. subst (λ (z : List Cell). Best S done s z marks j (causeAt one j)) (sym (other-cells es i in-cells k j n)) (subst (λ (d : Cause). Best S done s (cellsAt es j) marks j d) (sym (as-was j (in-few j m))) (lk .best j m r)));
         base = λ j m r. subst (λ (d : Cause). Base S s (cellsAt es′ j) (tipAt S j) d) (sym (stored-other one i best (256 + j) (omega (arith, in-few i l)))) (base-at j m r (ℕ-discrete j i));
         gone = at-store (λ (j : ℕ) (d : Cause). j < b → (getD over j 0 ≡ 0 → ⊥) → CellsOf (tipAt S j) (fraction (d .u) (d .ud)) s (cellsAt es′ j)) one i best room
             (λ m n. absurd (n runs))
-            (λ j n m x. subst (λ (z : List Cell). CellsOf (tipAt S j) (endAt one j) s z) (sym (other-cells j n)) (subst (λ (d : Cause). CellsOf (tipAt S j) (fraction (d .u) (d .ud)) s (cellsAt es j)) (sym (as-was j (in-few j m))) (lk .gone j m x)));
+            (λ j n m x. subst (λ (z : List Cell). CellsOf (tipAt S j) (endAt one j) s z) (sym (other-cells es i in-cells k j n)) (subst (λ (d : Cause). CellsOf (tipAt S j) (fraction (d .u) (d .ud)) s (cellsAt es j)) (sym (as-was j (in-few j m))) (lk .gone j m x)));
       }
     where
       one : List ℕ
@@ -244,10 +240,10 @@ module _ {S : Listing} {done : List Row} {s : ℕ} {es : List (List Cell)} {b : 
       base-at : (j : ℕ) → j < b → getD over j 0 ≡ 0 → Dec (j ≡ i) → Base S s (cellsAt es′ j) (tipAt S j) (causeAt one (256 + j))
       base-at j m r (yes e) =
           subst (λ (z : ℕ). Base S s (cellsAt es′ z) (tipAt S z) (causeAt one (256 + z))) (sym e)
-          (subst (λ (z : List Cell). Base S s z a (causeAt one (256 + i))) (sym own-cells)
+          (subst (λ (z : List Cell). Base S s z a (causeAt one (256 + i))) (sym (own-cells es i in-cells k))
           (subst (λ (d : Cause). Base S s (k ∷ cellsAt es i) a d) (sym (stored-same table (256 + i) base (omega (arith, in-few i l, lk .table-long)))) (base-more w (lk .base i l runs))))
       base-at j m r (no n) =
-          subst (λ (z : List Cell). Base S s z (tipAt S j) (causeAt one (256 + j))) (sym (other-cells j n))
+          subst (λ (z : List Cell). Base S s z (tipAt S j) (causeAt one (256 + j))) (sym (other-cells es i in-cells k j n))
           (subst (λ (d : Cause). Base S s (cellsAt es j) (tipAt S j) d) (sym (stored-other table (256 + i) base (256 + j) (omega arith))) (lk .base j m r))
 
 -- ---- looking again

@@ -1,11 +1,9 @@
 -- Each event leaves less to do: `less-cells`, `less-stale`, `less-rows`.
-use mathlib.Core.Logic.{_⊎_, inl, inr, _≢_}
 use mathlib.Core.Path.{_≡_, sym, subst}
 use mathlib.Core.List.{List}
 use Prim.Native.Nat.{ℕ, zero, suc, _+_, _*_, _-_, _≤_, _<_}
 use native.Mathlib.Decide.{ℕ-discrete}
 use native.Mathlib.Omega.{arith}
-use lib.ListN.{getD}
 use Rattle.sweep.specs.ToDo.{Sure, sure?, one, stales, toDo}
 
 one-le : {P Q : Type 0} (p : Dec P) (q : Dec Q) → (P → Q) → one q ≤ one p

@@ -1,11 +1,11 @@
 -- The events of the grid run. Main theorems: `way-open` (a tip begins), `way-next` (a cell is entered), `again-state` (a cause no longer counts), `ended-state` (a tip ends).
 use mathlib.Core.List.{List, [], _∷_, List·Memᴰ·not-nil}
-use mathlib.Core.Logic.{_⊎_, inl, inr, _≢_}
+use mathlib.Core.Logic.{inl, inr, _≢_}
 use mathlib.Core.Path.{_≡_, refl, sym, ap, _∙_, subst}
 use Prim.Native.Nat.{ℕ, _+_, _*_, _-_, _≤_, _<_}
 use native.Mathlib.Decide.{ℕ-discrete}
 use native.Mathlib.Omega.{arith}
-use lib.ListN.{length, getD, set, take}
+use lib.ListN.{length, getD, set}
 use lib.Seq.{sets}
 use Rattle.sheet.specs.declared.Track.{Track}
 use Rattle.sheet.specs.HandedIn.{noTrack}
@@ -17,9 +17,8 @@ use Rattle.rule.specs.declared.Row.{Row}
 use Rattle.rule.specs.Causes.{rowOf}
 use Rattle.rule.specs.EdgeTime.{rim}
 use Rattle.rule.specs.Motion.{Inside}
-use Rattle.rule.specs.Selection.{rollOf}
 use Rattle.rule.proofs.Turn.{Live}
-use Rattle.lines.specs.Lines.{Lined, trackAt}
+use Rattle.lines.specs.Lines.{trackAt}
 use Rattle.lines.proofs.Places.{tracks-count, track-read}
 use Rattle.causes.specs.declared.Cause.{Cause}
 use Rattle.causes.specs.Cause.{tipAt, candOf, Fine}
@@ -33,19 +32,19 @@ use Rattle.turn.specs.LookedAgain.{LookedAgain}
 use Rattle.turn.proofs.Counting.{counts-live, live-counts}
 use Rattle.cells.specs.declared.Cell.{Cell}
 use Rattle.cells.specs.Grid.{Figure, g1, g2, g4, g8, g16, g32, side}
-use Rattle.cells.proofs.Count.{first, first-good, stay-rim, figure-side}
+use Rattle.cells.proofs.Count.{first, first-good, stay-rim}
 use Rattle.cells.proofs.Entered.{Entered, entered-first, entered-few}
 use Rattle.cells.proofs.Walk.{next}
 use Rattle.heap.specs.Key.{NotAfter, keyAt}
 use Rattle.heap.specs.Queue.{Pushed, Popped}
 use Rattle.pending.specs.Pending.{pendingKey}
-use Rattle.sweep.specs.State.{spotAt, cellsAt, Looked, Marked, Placed, Listed, Queued, Rows}
-use Rattle.sweep.specs.Run.{State, Way, LiveKept}
+use Rattle.sweep.specs.State.{spotAt, cellsAt, Looked, Marked, Placed, Queued, Rows}
+use Rattle.sweep.specs.Run.{State, Way}
 use Rattle.sweep.specs.ToDo.{Sure}
 use Rattle.sweep.proofs.Stores.{store-best, again-best, open-tip}
 use Rattle.sweep.proofs.Queue.{queue-kept, queue-pushed, queue-open, queue-ended, queue-popped, popped-begun, popped-runs, popped-key, popped-before, none-out}
 use Rattle.sweep.proofs.Entering.{first-ahead, good-in, next-entered, next-ahead}
-use Rattle.sweep.proofs.Ending.{ending-progress, ending-inside, ending-row, looked-ended, placed-ended, rows-ended}
+use Rattle.sweep.proofs.Ending.{ending-inside, ending-row, looked-ended, placed-ended, rows-ended}
 
 pub figure-in : {g : ℕ} → Figure g → (0 < side g) × (side g ≤ 4096) × (g ≤ 32)
 unfolding side

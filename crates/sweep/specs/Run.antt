@@ -1,6 +1,6 @@
 -- The state of the grid run as a whole: between two events (`State`), and while the tip at i is on its way into cell k (`Way`).
 use mathlib.Core.Path.{_≡_}
-use mathlib.Core.List.{List, [], _∷_}
+use mathlib.Core.List.{List, _∷_}
 use Prim.Native.Nat.{ℕ, _+_, _≤_, _<_}
 use lib.ListN.{length, getD, take}
 use Rattle.sheet.specs.Listing.{Listing}

@@ -1,18 +1,9 @@
 -- `deal` deals with each kind of event.
 use Rattle.deal.proofs.Cases.{cell-comes, cell-came, cells-in, track-reached, wall-reached, edge-reached}
 use borrow.Author.Needs.{needs}
-use native.Mathlib.Omega.{arith}
-use Prim.Native.Nat.{ℕ, _≤_, _<_, _-_, _+_, _*_}
-use mathlib.Core.Path.{_≡_}
-use lib.ListN.{length, getD, take, drop, set}
-use borrow.Author.Needs.{needs}
+use Prim.Native.Nat.{_-_}
 use Rattle.deal.proofs.deal.Statement.{statement}
 use Rattle.deal.proofs.deal.Tie as tie
-use Rattle.deal.proofs.deal.Reads as reads
-use Rattle.deal.proofs.deal.Lts as lts
-use Rattle.deal.proofs.end_tip.Reads as end-tip-reads
-use Rattle.deal.proofs.reach.Reads as reach-reads
-use Rattle.enter.proofs.enter.Reads as enter-reads
 
 enum-known-event : tie.Need-enum-known-event
 enum-known-event c = search needs

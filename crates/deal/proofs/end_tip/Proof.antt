@@ -5,17 +5,9 @@ use Rattle.table.specs.Table.{causeAt}
 use Rattle.turn.specs.Ended.{Endable}
 use Rattle.deal.proofs.Deals.{due-here, reached-sized, end-able, end-room, end-dealt, finished-of}
 use borrow.Author.Needs.{needs}
-use native.Mathlib.Omega.{arith}
-use Prim.Native.Nat.{ℕ, _≤_, _<_, _-_, _+_, _*_}
-use mathlib.Core.Path.{_≡_}
-use lib.ListN.{length, getD, take, drop, set}
-use borrow.Author.Needs.{needs}
+use Prim.Native.Nat.{_-_}
 use Rattle.deal.proofs.end_tip.Statement.{statement}
 use Rattle.deal.proofs.end_tip.Tie as tie
-use Rattle.deal.proofs.end_tip.Reads as reads
-use Rattle.deal.proofs.end_tip.Lts as lts
-use Rattle.events.proofs.finish.Reads as finish-reads
-use Rattle.lines.proofs.track_at.Reads as track-at-reads
 
 track-at-requires : tie.Need-track-at-requires
 track-at-requires c κs = search needs

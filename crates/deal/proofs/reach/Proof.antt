@@ -2,18 +2,9 @@
 use native.Mathlib.Omega.{arith}
 use Rattle.deal.proofs.Deals.{due-here, reached-sized, reached-base, reached-spot, reached-queue, reached-counts, again-dealt, again-of}
 use borrow.Author.Needs.{needs}
-use native.Mathlib.Omega.{arith}
-use Prim.Native.Nat.{ℕ, _≤_, _<_, _-_, _+_, _*_}
-use mathlib.Core.Path.{_≡_}
-use lib.ListN.{length, getD, take, drop, set}
-use borrow.Author.Needs.{needs}
+use Prim.Native.Nat.{_-_}
 use Rattle.deal.proofs.reach.Statement.{statement}
 use Rattle.deal.proofs.reach.Tie as tie
-use Rattle.deal.proofs.reach.Reads as reads
-use Rattle.deal.proofs.reach.Lts as lts
-use Rattle.deal.proofs.end_tip.Reads as end-tip-reads
-use Rattle.events.proofs.again.Reads as again-reads
-use Rattle.turn.proofs.stale.Reads as stale-reads
 
 stale-requires : tie.Need-stale-requires
 stale-requires c κs =

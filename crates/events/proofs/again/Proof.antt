@@ -6,19 +6,9 @@ use Rattle.sheet.specs.Accepted.{TrackOk}
 use Rattle.cells.specs.declared.Cell.{Cell}
 use Rattle.events.proofs.Parts.{again-long, again-found, back-of}
 use borrow.Author.Needs.{needs}
-use native.Mathlib.Omega.{arith}
-use Prim.Native.Nat.{ℕ, _≤_, _<_, _-_, _+_, _*_}
-use mathlib.Core.Path.{_≡_}
-use lib.ListN.{length, getD, take, drop, set}
-use borrow.Author.Needs.{needs}
+use Prim.Native.Nat.{_<_, _-_}
 use Rattle.events.proofs.again.Statement.{statement}
 use Rattle.events.proofs.again.Tie as tie
-use Rattle.events.proofs.again.Reads as reads
-use Rattle.events.proofs.again.Lts as lts
-use Rattle.lines.proofs.track_at.Reads as track-at-reads
-use Rattle.steps.proofs.put_back.Reads as put-back-reads
-use Rattle.steps.proofs.spot_at.Reads as spot-at-reads
-use Rattle.turn.proofs.look_again.Reads as look-again-reads
 
 mul-look-again : tie.Need-mul-look-again
 mul-look-again c = search needs

@@ -7,20 +7,9 @@ use Rattle.cells.specs.declared.Cell.{Cell}
 use Rattle.heap.proofs.Tips.{popped-tip}
 use Rattle.events.proofs.Parts.{happening}
 use borrow.Author.Needs.{needs}
-use native.Mathlib.Omega.{arith}
-use Prim.Native.Nat.{ℕ, _≤_, _<_, _-_, _+_, _*_}
-use mathlib.Core.Path.{_≡_}
-use lib.ListN.{length, getD, take, drop, set}
-use borrow.Author.Needs.{needs}
+use Prim.Native.Nat.{_≤_, _-_}
 use Rattle.events.proofs.next_event.Statement.{statement}
 use Rattle.events.proofs.next_event.Tie as tie
-use Rattle.events.proofs.next_event.Reads as reads
-use Rattle.events.proofs.next_event.Lts as lts
-use Rattle.heap.proofs.pop.Reads as pop-reads
-use Rattle.lines.proofs.track_at.Reads as track-at-reads
-use Rattle.pending.proofs.event_of.Reads as event-of-reads
-use Rattle.steps.proofs.spot_at.Reads as spot-at-reads
-use Rattle.table.proofs.load.Reads as load-reads
 
 pop-requires : tie.Need-pop-requires
 pop-requires c κs = search needs

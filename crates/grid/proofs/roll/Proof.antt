@@ -1,17 +1,9 @@
 -- `roll` files the sheet, and runs on the tables.
 use Rattle.sheet.specs.HandedIn.{handedIn}
 use borrow.Author.Needs.{needs}
-use native.Mathlib.Omega.{arith}
-use Prim.Native.Nat.{ℕ, _≤_, _<_, _-_, _+_, _*_}
-use mathlib.Core.Path.{_≡_}
-use lib.ListN.{length, getD, take, drop, set}
-use borrow.Author.Needs.{needs}
+use Prim.Native.Nat.{_-_}
 use Rattle.grid.proofs.roll.Statement.{statement}
 use Rattle.grid.proofs.roll.Tie as tie
-use Rattle.grid.proofs.roll.Reads as reads
-use Rattle.grid.proofs.roll.Lts as lts
-use Rattle.grid.proofs.run.Reads as run-reads
-use Rattle.lines.proofs.file.Reads as file-reads
 
 slice-aggregate-file : tie.Need-slice-aggregate-file
 slice-aggregate-file c = search needs

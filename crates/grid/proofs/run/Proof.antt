@@ -1,17 +1,9 @@
 -- `run` begins all tips in blank tables, and deals with all events.
 use Rattle.grid.proofs.Blank.{blank-starts, begun-going, figure-pos, side-is}
 use borrow.Author.Needs.{needs}
-use native.Mathlib.Omega.{arith}
-use Prim.Native.Nat.{ℕ, _≤_, _<_, _-_, _+_, _*_}
-use mathlib.Core.Path.{_≡_}
-use lib.ListN.{length, getD, take, drop, set}
-use borrow.Author.Needs.{needs}
+use Prim.Native.Nat.{_-_}
 use Rattle.grid.proofs.run.Statement.{statement}
 use Rattle.grid.proofs.run.Tie as tie
-use Rattle.grid.proofs.run.Reads as reads
-use Rattle.grid.proofs.run.Lts as lts
-use Rattle.enter.proofs.begin.Reads as begin-reads
-use Rattle.grid.proofs.turns.Reads as turns-reads
 
 div-s : tie.Need-div-s
 div-s c = let h = figure-pos (c .before .before .before .before .pre .1 .1) in search needs

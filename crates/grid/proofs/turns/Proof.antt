@@ -6,15 +6,11 @@ use Rattle.sweep.specs.ToDo.{toDo}
 use Rattle.grid.proofs.Turning.{lengths, pop-asked, is-due, all-ran}
 use borrow.Author.Needs.{needs}
 use native.Mathlib.Omega.{arith}
-use Prim.Native.Nat.{ℕ, _≤_, _<_, _-_, _+_, _*_}
+use Prim.Native.Nat.{ℕ, _≤_, _-_, _*_}
 use mathlib.Core.Path.{_≡_, sym, _∙_}
-use lib.ListN.{length, getD, take, drop, set}
+use lib.ListN.{length}
 use Rattle.grid.proofs.turns.Statement.{statement}
 use Rattle.grid.proofs.turns.Tie as tie
-use Rattle.grid.proofs.turns.Reads as reads
-use Rattle.grid.proofs.turns.Lts as lts
-use Rattle.deal.proofs.deal.Reads as deal-reads
-use Rattle.events.proofs.next_event.Reads as next-event-reads
 
 abbrev Inv-loop : tie.InvT-loop
 Inv-loop starts speeds n walls m s table₀ over₀ marks₀ spots₀ keys₀ heap₀ place₀ lists₀ out₀ cells₀ rows₀ table over marks spots keys heap place lists out cells rows =

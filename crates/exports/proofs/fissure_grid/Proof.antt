@@ -1,0 +1,52 @@
+-- Reading, then the grid run: its answer as two numbers, and its count.
+use borrow.Author.Needs.{needs}
+use Rattle.sheet.specs.Listing.{listing}
+use Rattle.sheet.specs.Scan.{commandsOf}
+use Rattle.exports.proofs.Reached.{entered, none-entered}
+use Rattle.exports.proofs.fissure_grid.Statement.{statement}
+use Rattle.exports.proofs.fissure_grid.Tie as tie
+
+grid-roll-bytes-requires : tie.Need-grid-roll-bytes-requires
+grid-roll-bytes-requires c κs = search needs
+
+enum-known-rolled : tie.Need-enum-known-rolled
+enum-known-rolled c = search needs
+
+enum-known-rolled-2 : tie.Need-enum-known-rolled-2
+enum-known-rolled-2 c = search needs
+
+cast-result : tie.Need-cast-result
+cast-result c = search needs
+
+same-length : tie.Need-same-length
+same-length c = search needs
+
+returns : tie.Need-returns
+returns c =
+    let a = c .before .before .before .before .before .before .before .before .before .args in
+    let h = c .before .before .before .before .before .grid-roll-bytes .ensures in
+    let t = entered (listing (commandsOf (a .s .now))) (a .g) (h .answer) (c .before .rolled .given .1) (h .cells) in
+    (t .0 .0, t .0 .1, t .1, h .buffer)
+
+same-length-2 : tie.Need-same-length-2
+same-length-2 c = search needs
+
+returns-2 : tie.Need-returns-2
+returns-2 c =
+    let a = c .before .before .before .before .before .before .before .before .before .args in
+    let h = c .before .before .before .before .before .grid-roll-bytes .ensures in
+    let t = none-entered (listing (commandsOf (a .s .now))) (a .g) (h .answer) (c .before .rolled2 .given .1) in
+    (t .0 .0, t .0 .1, t .1, h .buffer)
+
+pub fissure-grid-spec : {M : Type 1} → statement M
+fissure-grid-spec =
+    tie.close
+    (tie.spec
+    grid-roll-bytes-requires
+    enum-known-rolled
+    enum-known-rolled-2
+    cast-result
+    same-length
+    returns
+    same-length-2
+    returns-2)

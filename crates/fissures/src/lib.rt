@@ -1,0 +1,43 @@
+// The interface: everything that callers may use, and nothing else. No function here has a `requires`; each contract stands where the
+// function does, and docs/CONTRACTS.md names the sentence that it serves.
+
+// The records of a sheet; reading, checking and writing them.
+pub use reader::Reading;
+pub use reader::read;
+pub use reader::scan;
+pub use sheet::Sheet;
+pub use sheet::Track;
+pub use sheet::Verdict;
+pub use sheet::Wall;
+pub use writer::Written;
+pub use writer::check;
+pub use writer::write;
+
+// The roll, by the plain run and by the grid run; two listings exchanged.
+pub use grid_run::Exchanged;
+pub use grid_run::GridRolled;
+pub use grid_run::exchange;
+pub use grid_run::grid_roll;
+pub use grid_run::grid_roll_bytes;
+pub use plain_run::Rolled;
+pub use plain_run::plain_roll;
+pub use plain_run::plain_roll_bytes;
+
+// Its rows, read back from bytes and printed.
+pub use rule::Ending;
+pub use rule::Row;
+pub use stored::Stored;
+pub use stored::row_at;
+pub use text::Text;
+pub use text::head;
+pub use text::line;
+pub use text::refusal;
+
+// The stepping session, the partner's name, the tracks of a cell.
+pub use listing::Listed;
+pub use listing::cell_tracks;
+pub use listing::cell_tracks_bytes;
+pub use names::partner_name;
+pub use session::Advanced;
+pub use session::Begun;
+pub use session::Session;

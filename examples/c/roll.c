@@ -1,0 +1,37 @@
+/* Reads a sheet from standard input and prints its roll, or its refusal, with the proved library: what program `roll` prints.
+ *   rt staticlib exports
+ *   cc -std=c99 -Ibindings examples/c/roll.c target/staticlib/libexports.a -o target/roll-c
+ */
+#include <inttypes.h>
+#include <stdio.h>
+
+#include "fissures.h"
+
+/* The first 5,131 bytes decide every sheet: 256 tracks, 256 walls, and one command more with its operands. */
+static uint8_t sheet[5132];
+static uint8_t roll[FISSURE_LONGEST_ROLL];
+
+static uint64_t number_at(const uint8_t *bytes, int width) {
+    uint64_t number = 0;
+    while (width-- > 0) number = number << 8 | bytes[width];
+    return number;
+}
+
+static void print_row(const uint8_t *row) {
+    printf("%" PRIu64 " %" PRIu64 " %" PRIu64 " ", number_at(row, 2), number_at(row + 2, 1), number_at(row + 3, 2));
+    printf("%" PRIu64 "/%" PRIu64 " ", number_at(row + 5, 8), number_at(row + 13, 8));
+    printf("%" PRIu64 " %" PRIu64 "\n", number_at(row + 21, 4), number_at(row + 25, 4));
+}
+
+int main(void) {
+    uint64_t second, cells;
+    size_t length = fread(sheet, 1, sizeof sheet, stdin);
+    uint64_t refusal = fissure_grid(sheet, length, 8, roll, sizeof roll, &second, &cells);
+    if (refusal != FISSURE_ACCEPTED) {
+        printf("refused %" PRIu64 " %" PRIu64 "\n", refusal, second);
+        return 0;
+    }
+    printf("tracks %" PRIu64 " cells %" PRIu64 "\n", second, cells);
+    for (uint64_t i = 0; i < second; i++) print_row(roll + i * FISSURE_ROW);
+    return 0;
+}

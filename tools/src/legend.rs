@@ -1,0 +1,45 @@
+//! What the colours and marks of a picture mean.
+
+/// The width of the legend in pixels.
+pub const WIDTH: i128 = 200;
+
+/// Colours of the kinds 1 to 4 that also differ for the colour-blind.
+pub const COLOURS: [&str; 4] = ["#0072b2", "#d55e00", "#009e73", "#cc79a7"];
+
+const KINDS: [&str; 4] = [
+    "1 ends at an earlier trace",
+    "2 meets a tip, both end",
+    "3 ends at a wall",
+    "4 ends at the edge",
+];
+
+/// The legend, its left side at x pixels.
+pub fn draw(x: &str, shaded: Option<u16>) -> String {
+    let mut text = format!("<g transform=\"translate({x} 0)\">\n");
+    for (index, (colour, words)) in COLOURS.iter().zip(KINDS).enumerate() {
+        let mark = format!("<circle cx=\"17\" cy=\"0\" r=\"4\" fill=\"{colour}\"/>");
+        text += &entry(index, &mark, words);
+    }
+    text += &entry(4, &line("#777", 1), "trace, id at its start");
+    text += &entry(5, &line("#000", 3), "wall, id after w");
+    text += &entry(6, &dashed(), "edge of the sheet");
+    if let Some(figure) = shaded {
+        let mark = "<rect x=\"8\" y=\"-5\" width=\"18\" height=\"10\" fill=\"#fbeeb8\"/>";
+        text += &entry(7, mark, &format!("cell touched, g = {figure}"));
+    }
+    text + "</g>\n"
+}
+
+/// One line of the legend: a mark and its meaning.
+fn entry(index: usize, mark: &str, words: &str) -> String {
+    let y = 20 + 22 * index;
+    format!("<g transform=\"translate(0 {y})\">{mark}<text x=\"34\" y=\"4\">{words}</text></g>\n")
+}
+
+fn line(colour: &str, width: u8) -> String {
+    format!("<path d=\"M8 0H26\" stroke=\"{colour}\" stroke-width=\"{width}\"/>")
+}
+
+fn dashed() -> String {
+    "<path d=\"M8 0H26\" stroke=\"#999\" stroke-dasharray=\"4 3\"/>".to_string()
+}

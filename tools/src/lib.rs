@@ -1,0 +1,14 @@
+//! Sheets as people write and see them: listings in text, pictures in SVG. Whether a sheet is
+//! accepted and where its tips end is taken from what the proved program `roll` prints.
+
+#![forbid(unsafe_code)]
+
+pub mod cells;
+pub mod fraction;
+pub mod legend;
+pub mod listing;
+pub mod picture;
+pub mod roll;
+pub mod sheet;
+pub mod trace;
+pub mod view;

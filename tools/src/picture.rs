@@ -1,0 +1,204 @@
+//! A sheet and its traces as SVG. Walls, traces and end points are in units of the sheet, turned
+//! so that y goes upwards; ids and the legend are in pixels.
+
+use crate::cells;
+use crate::fraction::Fraction;
+use crate::legend;
+use crate::sheet::{Command, Track, Wall};
+use crate::trace::Trace;
+use crate::view::View;
+use std::collections::BTreeSet;
+
+/// What the picture shows besides the traces and walls.
+#[derive(Clone, Copy, Debug, Default)]
+pub struct Options {
+    /// The figure of the grid to draw.
+    pub grid: Option<u16>,
+    /// The part of the sheet to show, else all that is drawn.
+    pub view: Option<View>,
+}
+
+/// The picture.
+pub fn draw(commands: &[Command], traces: &[Trace], options: Options) -> String {
+    let walls: Vec<Wall> = commands.iter().filter_map(as_wall).collect();
+    let shaded: BTreeSet<(u16, u16)> = options
+        .grid
+        .iter()
+        .flat_map(|&figure| traces.iter().flat_map(move |trace| cells::touched(trace, figure)))
+        .collect();
+    let corners = corners(&shaded, options.grid);
+    let view = options.view.unwrap_or_else(|| View::around(&points(&walls, traces, &corners)));
+    let (width, height) = view.size();
+    let (wide, high) = (width.pixels(), height.pixels());
+    let total = width.along(legend::WIDTH, 1).pixels();
+    let mut svg = format!(
+        "<svg xmlns=\"http://www.w3.org/2000/svg\" width=\"{total}\" height=\"{high}\" \
+         font-family=\"sans-serif\" font-size=\"11\">\n\
+         <rect width=\"{total}\" height=\"{high}\" fill=\"#fff\"/>\n\
+         <svg width=\"{wide}\" height=\"{high}\" viewBox=\"{}\">\n<g transform=\"scale(1 -1)\">\n",
+        view.view_box()
+    );
+    svg += &grid(&shaded, options.grid, &view);
+    svg += &edge(&view);
+    svg += &wall_lines(&walls, &view);
+    svg += &trace_lines(traces, &view);
+    svg += &marks(traces, &view);
+    svg += "</g>\n</svg>\n";
+    svg += &ids(&walls, traces, &view);
+    svg += &legend::draw(&wide, options.grid);
+    svg + "</svg>\n"
+}
+
+fn as_wall(command: &Command) -> Option<Wall> {
+    match command {
+        Command::Wall(wall) => Some(*wall),
+        Command::Track(_) => None,
+    }
+}
+
+fn in_64ths(x: u16, y: u16) -> (i64, i64) {
+    (64 * i64::from(x), 64 * i64::from(y))
+}
+
+/// Lower left and upper right corners of the shaded cells.
+fn corners(shaded: &BTreeSet<(u16, u16)>, figure: Option<u16>) -> Vec<(i64, i64)> {
+    let side = cells::side(figure.unwrap_or(1));
+    let both = |&(column, row): &(u16, u16)| {
+        [(column, row), (column + 1, row + 1)].map(|(x, y)| in_64ths(x * side, y * side))
+    };
+    shaded.iter().flat_map(both).collect()
+}
+
+/// All points that the view is to hold.
+fn points(walls: &[Wall], traces: &[Trace], corners: &[(i64, i64)]) -> Vec<(i64, i64)> {
+    let mut points = corners.to_vec();
+    for wall in walls {
+        points.extend([in_64ths(wall.ax, wall.ay), in_64ths(wall.bx, wall.by)]);
+    }
+    for trace in traces {
+        points.push(in_64ths(trace.track.x, trace.track.y));
+        points.push((trace.row.x.into(), trace.row.y.into()));
+    }
+    points
+}
+
+/// The shaded cells and the lines of the grid.
+fn grid(shaded: &BTreeSet<(u16, u16)>, figure: Option<u16>, view: &View) -> String {
+    let Some(figure) = figure else { return String::new() };
+    let side = cells::side(figure);
+    let mut text = "<g fill=\"#fbeeb8\">\n".to_string();
+    for (column, row) in shaded {
+        let (x, y) = (column * side, row * side);
+        text += &format!("<rect x=\"{x}\" y=\"{y}\" width=\"{side}\" height=\"{side}\"/>\n");
+    }
+    text += &format!("</g>\n<g stroke=\"#ccc\" stroke-width=\"{}\">\n", view.tenths(5));
+    for place in (0..=figure).map(|index| index * side) {
+        text += &format!("<path d=\"M{place} 0V4096M0 {place}H4096\"/>\n");
+    }
+    text + "</g>\n"
+}
+
+fn edge(view: &View) -> String {
+    format!(
+        "<rect width=\"4095\" height=\"4095\" fill=\"none\" stroke=\"#999\" stroke-width=\"{}\" \
+         stroke-dasharray=\"{} {}\"/>\n",
+        view.tenths(10),
+        view.tenths(40),
+        view.tenths(30)
+    )
+}
+
+fn wall_lines(walls: &[Wall], view: &View) -> String {
+    let mut text = format!("<g stroke=\"#000\" stroke-width=\"{}\">\n", view.tenths(30));
+    for Wall { ax, ay, bx, by, .. } in walls {
+        text += &format!("<line x1=\"{ax}\" y1=\"{ay}\" x2=\"{bx}\" y2=\"{by}\"/>\n");
+    }
+    text + "</g>\n"
+}
+
+/// The traces to their exact ends.
+fn trace_lines(traces: &[Trace], view: &View) -> String {
+    let mut text = format!("<g stroke=\"#777\" stroke-width=\"{}\">\n", view.tenths(12));
+    for trace in traces {
+        let (x, y) = trace.end();
+        text += &format!(
+            "<line x1=\"{}\" y1=\"{}\" x2=\"{}\" y2=\"{}\"/>\n",
+            trace.track.x,
+            trace.track.y,
+            x.units(),
+            y.units()
+        );
+    }
+    text + "</g>\n"
+}
+
+/// The starts, and the end points coloured by kind.
+fn marks(traces: &[Trace], view: &View) -> String {
+    let mut text = "<g fill=\"#777\">\n".to_string();
+    for trace in traces {
+        let (x, y) = (trace.track.x, trace.track.y);
+        text += &format!("<circle cx=\"{x}\" cy=\"{y}\" r=\"{}\"/>\n", view.tenths(20));
+    }
+    text += "</g>\n";
+    for trace in traces {
+        let (x, y) = trace.end();
+        text += &format!(
+            "<circle cx=\"{}\" cy=\"{}\" r=\"{}\" fill=\"{}\"><title>{}</title></circle>\n",
+            x.units(),
+            y.units(),
+            view.tenths(40),
+            legend::COLOURS[usize::from(trace.row.kind) - 1],
+            ending(trace)
+        );
+    }
+    text
+}
+
+/// An ending in words, shown where the pointer rests on its mark.
+fn ending(trace: &Trace) -> String {
+    let row = trace.row;
+    let cause = match row.kind {
+        1 => format!("trace {}", row.partner),
+        2 => format!("tip {}", row.partner),
+        3 => format!("wall {}", row.partner),
+        _ => "the edge".to_string(),
+    };
+    format!("track {} ends at {}, time {}", row.id, cause, row.time.ratio())
+}
+
+/// The ids: of a track behind its start, of a wall at its middle.
+fn ids(walls: &[Wall], traces: &[Trace], view: &View) -> String {
+    let font = if traces.len() > 32 { 7 } else { 10 };
+    let mut text = format!("<g text-anchor=\"middle\" font-size=\"{font}\">\n");
+    for Trace { track, .. } in traces {
+        text += &label(view, in_64ths(track.x, track.y), behind(track), &track.id.to_string());
+    }
+    for wall in walls {
+        let ((ax, ay), (bx, by)) = (in_64ths(wall.ax, wall.ay), in_64ths(wall.bx, wall.by));
+        text += &label(view, ((ax + bx) / 2, (ay + by) / 2), (11, -8), &format!("w{}", wall.id));
+    }
+    text + "</g>\n"
+}
+
+/// Pixels across and down to the place behind a start, on the axis of the greater speed.
+fn behind(track: &Track) -> (i128, i128) {
+    if track.vx.unsigned_abs() > track.vy.unsigned_abs() {
+        (-11 * i128::from(track.vx.signum()), 0)
+    } else {
+        (0, 11 * i128::from(track.vy.signum()))
+    }
+}
+
+/// A label a few pixels from a point; nothing where the point is not shown.
+fn label(view: &View, (x, y): (i64, i64), shift: (i128, i128), words: &str) -> String {
+    if !view.holds(x, y) {
+        return String::new();
+    }
+    let (across, down) = view.pixels(x, y);
+    let near = |place: Fraction, by: i128| place.along(by, 1).pixels();
+    format!(
+        "<text x=\"{}\" y=\"{}\">{words}</text>\n",
+        near(across, shift.0),
+        near(down, shift.1 + 3)
+    )
+}

@@ -1,0 +1,85 @@
+//! The part of the sheet that a picture shows, and its scale. Positions are in 64ths of a unit.
+
+use crate::fraction::Fraction;
+
+/// The longer side of the drawing in pixels.
+const LONG: i64 = 640;
+/// The shorter side is at least this.
+const SHORT: i64 = 200;
+
+#[derive(Clone, Copy, Debug, PartialEq, Eq)]
+pub struct View {
+    left: i64,
+    bottom: i64,
+    right: i64,
+    top: i64,
+}
+
+impl View {
+    /// The rectangle between two corners given in units, with a margin.
+    pub fn between(ax: u16, ay: u16, bx: u16, by: u16) -> View {
+        let [ax, ay, bx, by] = [ax, ay, bx, by].map(|value| 64 * i64::from(value));
+        View::around(&[(ax, ay), (bx, by)])
+    }
+
+    /// The points with a margin; the whole sheet where there are none.
+    pub fn around(points: &[(i64, i64)]) -> View {
+        let xs = || points.iter().map(|point| point.0);
+        let ys = || points.iter().map(|point| point.1);
+        let (Some(left), Some(right)) = (xs().min(), xs().max()) else {
+            return View::around(&[(0, 0), (64 * 4095, 64 * 4095)]);
+        };
+        let (bottom, top) = (ys().min().unwrap_or(0), ys().max().unwrap_or(0));
+        let margin = (right - left).max(top - bottom).max(64) / 14;
+        View {
+            left: left - margin,
+            bottom: bottom - margin,
+            right: right + margin,
+            top: top + margin,
+        }
+        .widened()
+    }
+
+    /// The view with its shorter side, and a side of no length, made long enough.
+    fn widened(self) -> View {
+        let least = (self.longer().max(64) * SHORT + LONG - 1) / LONG;
+        let grow = |low: i64, high: i64| {
+            let more = (least - (high - low)).max(0);
+            (low - more / 2, high + more - more / 2)
+        };
+        let (left, right) = grow(self.left, self.right);
+        let (bottom, top) = grow(self.bottom, self.top);
+        View { left, bottom, right, top }
+    }
+
+    fn longer(&self) -> i64 {
+        (self.right - self.left).max(self.top - self.bottom)
+    }
+
+    /// Width and height in pixels.
+    pub fn size(&self) -> (Fraction, Fraction) {
+        self.pixels(self.right, self.bottom)
+    }
+
+    /// Where a point is in the drawing, in pixels from its upper left corner.
+    pub fn pixels(&self, x: i64, y: i64) -> (Fraction, Fraction) {
+        let scaled = |distance: i64| Fraction::new((distance * LONG).into(), self.longer().into());
+        (scaled(x - self.left), scaled(self.top - y))
+    }
+
+    /// Tenths of a pixel in units of the sheet, printed.
+    pub fn tenths(&self, count: i64) -> String {
+        Fraction::new((count * self.longer()).into(), (640 * LONG).into()).units()
+    }
+
+    /// The `viewBox` in units of the sheet; SVG counts y downwards.
+    pub fn view_box(&self) -> String {
+        let units = |value: i64| Fraction::new(value.into(), 64).units();
+        let (width, height) = (self.right - self.left, self.top - self.bottom);
+        format!("{} {} {} {}", units(self.left), units(-self.top), units(width), units(height))
+    }
+
+    pub fn holds(&self, x: i64, y: i64) -> bool {
+        (self.left..=self.right).contains(&x) && (self.bottom..=self.top).contains(&y)
+    }
+}

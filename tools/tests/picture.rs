@@ -1,0 +1,109 @@
+//! Pictures of the examples, drawn from what `roll` prints for them (examples/*.txt).
+
+mod common;
+
+use common::{example, path, run, NAMES};
+use sheet_tools::{cells, roll, sheet, trace};
+
+const SVG: &str = env!("CARGO_BIN_EXE_sheet-svg");
+
+/// The picture of an example under some options.
+fn picture(name: &str, options: &[&str]) -> Result<String, String> {
+    picture_with(name, name, options)
+}
+
+/// The picture of one example with the roll of another.
+fn picture_with(sheet: &str, roll: &str, options: &[&str]) -> Result<String, String> {
+    let sheet = path(&format!("examples/{sheet}.sheet"));
+    let roll = path(&format!("examples/{roll}.txt"));
+    let arguments = [options, &[&sheet, &roll]].concat();
+    run(SVG, &arguments, b"").map(|svg| String::from_utf8(svg).unwrap())
+}
+
+#[test]
+fn ends_of_a() {
+    let svg = picture("A", &[]).unwrap();
+    assert!(svg.contains("<line x1=\"100\" y1=\"100\" x2=\"200\" y2=\"100\"/>"));
+    assert!(svg.contains("<line x1=\"200\" y1=\"50\" x2=\"200\" y2=\"4095\"/>"));
+    assert!(svg.contains("<circle cx=\"200\" cy=\"100\""));
+    assert!(svg.contains("<circle cx=\"200\" cy=\"4095\""));
+    assert!(svg.contains("track 1 ends at trace 2, time 10/1"));
+    assert!(svg.contains("track 2 ends at the edge, time 809/2"));
+}
+
+#[test]
+fn ends_are_exact() {
+    // J's trace ends at 2/3, not at 42/64.
+    let svg = picture("J", &[]).unwrap();
+    assert!(svg.contains("x2=\"0.666667\" y2=\"0.666667\""));
+    assert!(svg.contains("<line x1=\"0\" y1=\"1\" x2=\"2\" y2=\"0\"/>"));
+}
+
+#[test]
+fn shaded_cells_are_those_entered() {
+    for name in NAMES {
+        let commands = sheet::from_bytes(&example(&format!("{name}.sheet"))).unwrap();
+        let text = String::from_utf8(example(&format!("{name}.txt"))).unwrap();
+        let roll = roll::parse(&text).unwrap();
+        let traces = trace::traces(&commands, &roll).unwrap();
+        let count: usize = traces.iter().map(|trace| cells::touched(trace, 8).len()).sum();
+        assert_eq!(count, roll.cells as usize, "{name}");
+    }
+}
+
+#[test]
+fn grid_shades_each_cell_once() {
+    let svg = picture("A", &["--grid", "8"]).unwrap();
+    assert_eq!(svg.matches("width=\"512\"").count(), 8);
+    assert!(picture("A", &["--grid", "3"]).unwrap_err().contains("1, 2, 4, 8, 16 or 32"));
+}
+
+#[test]
+fn view_leaves_out_what_it_does_not_show() {
+    let svg = picture("F", &["--view", "0", "0", "200", "300"]).unwrap();
+    assert!(svg.contains("viewBox=\"-21.421875 -321.421875 242.84375 342.84375\""));
+    assert!(svg.contains(">1</text>") && !svg.contains(">2</text>") && !svg.contains(">w1</text>"));
+}
+
+#[test]
+fn refused_and_foreign_rolls_are_errors() {
+    let wrong = [
+        (picture("facing", &[]), "roll refused the sheet: 11, place 9"),
+        (picture_with("A", "facing", &[]), "roll refused the sheet: 11, place 9"),
+        (picture_with("A", "D", &[]), "2 tracks in the sheet, 64 rows"),
+        (picture_with("A", "F", &[]), "row of track 2: its end point is not at its time"),
+    ];
+    for (said, expected) in wrong {
+        assert_eq!(said.unwrap_err(), format!("sheet-svg: {expected}\n"));
+    }
+}
+
+#[test]
+fn texts_that_are_no_rolls_are_errors() {
+    let cases = [
+        ("", "line 1: not the output of roll"),
+        ("tracks 1 cells x\n", "line 1: not the output of roll"),
+        ("tracks 1 cells 1\n", "0 rows for 1 tracks"),
+        ("tracks 1 cells 1\n1 5 0 1/1 0 0\n", "line 2: not a row of a roll"),
+        ("tracks 1 cells 1\n1 4 0 1/0 0 0\n", "line 2: not a row of a roll"),
+    ];
+    for (text, wrong) in cases {
+        assert_eq!(roll::parse(text).err().as_deref(), Some(wrong));
+    }
+}
+
+#[test]
+fn stored_pictures_are_the_drawn_ones() {
+    let stored = |name: &str| std::fs::read_to_string(path(&format!("docs/pictures/{name}.svg")));
+    for name in NAMES {
+        assert_eq!(stored(name).unwrap(), picture(name, &[]).unwrap(), "{name}");
+    }
+    for name in ["A", "C", "F", "G", "H2"] {
+        let near = picture(name, &["--view", "0", "0", "400", "300"]).unwrap();
+        assert_eq!(stored(&format!("{name}-near")).unwrap(), near, "{name}");
+    }
+    for name in ["A", "D"] {
+        let grid = picture(name, &["--grid", "8"]).unwrap();
+        assert_eq!(stored(&format!("{name}-grid")).unwrap(), grid, "{name}");
+    }
+}
