@@ -1,4 +1,4 @@
-//! The proved library (crates/exports) behind safe functions. Only this file has `unsafe` code.
+//! The proved library (crates/exports) behind safe functions. Only this file and the guard pages of `robust` have `unsafe` code.
 
 mod c {
     extern "C" {

@@ -134,11 +134,22 @@ pub fn ids_in(records: &Records, rows: &[Row], figure: u64, cell: Cell) -> BTree
     traces(records, rows).filter(has_point).map(|(track, _)| track.id).collect()
 }
 
-fn check_figure(figure: u64) -> Result<(), Refusal> {
+/// Refusal 13.
+pub fn check_figure(figure: u64) -> Result<(), Refusal> {
     if FIGURES.contains(&figure) {
         Ok(())
     } else {
         Err(Refusal { number: GRID_FIGURE, place: figure as usize })
+    }
+}
+
+/// Refusal 13 or 14.
+pub fn check_cell(figure: u64, cell: Cell) -> Result<(), Refusal> {
+    check_figure(figure)?;
+    if cell.column.max(cell.row) < figure {
+        Ok(())
+    } else {
+        Err(Refusal { number: OUTSIDE_GRID, place: 0 })
     }
 }
 
@@ -150,9 +161,6 @@ pub fn cells_entered(records: &Records, figure: u64) -> Result<usize, Refusal> {
 
 /// The cell listing, or the refusal of the figure or the cell.
 pub fn listing(records: &Records, figure: u64, cell: Cell) -> Result<BTreeSet<u16>, Refusal> {
-    check_figure(figure)?;
-    if cell.column.max(cell.row) >= figure {
-        return Err(Refusal { number: OUTSIDE_GRID, place: 0 });
-    }
+    check_cell(figure, cell)?;
     Ok(ids_in(records, &roll(records), figure, cell))
 }

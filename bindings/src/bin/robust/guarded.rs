@@ -1,0 +1,63 @@
+//! Memory between two pages that nobody may touch: an access outside a part that ends or begins there ends the program. Linux, x86-64.
+
+use std::ptr::null_mut;
+use std::slice::from_raw_parts_mut;
+
+mod c {
+    extern "C" {
+        pub fn mmap(at: *mut u8, length: usize, protection: i32, flags: i32, file: i32, offset: i64) -> *mut u8;
+        pub fn mprotect(at: *mut u8, length: usize, protection: i32) -> i32;
+    }
+    pub const NO_ACCESS: i32 = 0;
+    pub const READ_AND_WRITE: i32 = 3;
+    /// MAP_PRIVATE and MAP_ANONYMOUS.
+    pub const OWN_MEMORY: i32 = 0x22;
+}
+
+const PAGE: usize = 4096;
+/// Room for any sheet, roll or listing, and for what is lent beyond it.
+const INSIDE: usize = 4 * PAGE;
+
+/// Where a lent part lies.
+#[derive(Clone, Copy, Debug)]
+pub enum Side {
+    AfterAPage,
+    BeforeAPage,
+}
+
+pub const SIDES: [Side; 2] = [Side::AfterAPage, Side::BeforeAPage];
+
+/// Kept until the program ends.
+pub struct Guarded {
+    inside: *mut u8,
+}
+
+impl Guarded {
+    pub fn new() -> Self {
+        let all = unsafe { c::mmap(null_mut(), INSIDE + 2 * PAGE, c::NO_ACCESS, c::OWN_MEMORY, -1, 0) };
+        assert_ne!(all as isize, -1, "mmap");
+        let inside = all.wrapping_add(PAGE);
+        assert_eq!(unsafe { c::mprotect(inside, INSIDE, c::READ_AND_WRITE) }, 0, "mprotect");
+        Guarded { inside }
+    }
+
+    pub fn lend(&mut self, length: usize, side: Side) -> &mut [u8] {
+        assert!(length <= INSIDE);
+        let first = match side {
+            Side::AfterAPage => 0,
+            Side::BeforeAPage => INSIDE - length,
+        };
+        unsafe { from_raw_parts_mut(self.inside.add(first), length) }
+    }
+}
+
+/// Reads the byte next to a lent part, which must end the program.
+pub fn read_outside(side: Side) {
+    let mut memory = Guarded::new();
+    let lent = memory.lend(10, side);
+    let outside = match side {
+        Side::AfterAPage => lent.as_ptr().wrapping_sub(1),
+        Side::BeforeAPage => lent.as_ptr().wrapping_add(10),
+    };
+    println!("read {}", unsafe { outside.read_volatile() });
+}
