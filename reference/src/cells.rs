@@ -134,22 +134,11 @@ pub fn ids_in(records: &Records, rows: &[Row], figure: u64, cell: Cell) -> BTree
     traces(records, rows).filter(has_point).map(|(track, _)| track.id).collect()
 }
 
-/// Refusal 13.
-pub fn check_figure(figure: u64) -> Result<(), Refusal> {
+fn check_figure(figure: u64) -> Result<(), Refusal> {
     if FIGURES.contains(&figure) {
         Ok(())
     } else {
         Err(Refusal { number: GRID_FIGURE, place: figure as usize })
-    }
-}
-
-/// Refusal 13 or 14.
-pub fn check_cell(figure: u64, cell: Cell) -> Result<(), Refusal> {
-    check_figure(figure)?;
-    if cell.column.max(cell.row) < figure {
-        Ok(())
-    } else {
-        Err(Refusal { number: OUTSIDE_GRID, place: 0 })
     }
 }
 
@@ -161,6 +150,9 @@ pub fn cells_entered(records: &Records, figure: u64) -> Result<usize, Refusal> {
 
 /// The cell listing, or the refusal of the figure or the cell.
 pub fn listing(records: &Records, figure: u64, cell: Cell) -> Result<BTreeSet<u16>, Refusal> {
-    check_cell(figure, cell)?;
+    check_figure(figure)?;
+    if cell.column.max(cell.row) >= figure {
+        return Err(Refusal { number: OUTSIDE_GRID, place: 0 });
+    }
     Ok(ids_in(records, &roll(records), figure, cell))
 }

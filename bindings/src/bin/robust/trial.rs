@@ -3,7 +3,7 @@
 use crate::guarded::{Guarded, SIDES};
 use fissures::{Cell, GridRoll, Session, ROW};
 use reference::cells::{self, FIGURES};
-use reference::refusal::{Refusal, OUTPUT_TOO_SHORT};
+use reference::refusal::{Refusal, GRID_FIGURE, OUTPUT_TOO_SHORT, OUTSIDE_GRID};
 use reference::rng::Rng;
 use reference::roll::{roll, roll_bytes, Row};
 use reference::sheet::{ordered_form, read, Records};
@@ -15,6 +15,23 @@ pub struct Sheet {
     pub rows: Vec<Row>,
     form: Vec<u8>,
     roll: Vec<u8>,
+}
+
+/// Refusal 13.
+fn check_figure(figure: u64) -> Result<(), Refusal> {
+    match FIGURES.contains(&figure) {
+        true => Ok(()),
+        false => Err(Refusal { number: GRID_FIGURE, place: figure as usize }),
+    }
+}
+
+/// Refusal 13 or 14.
+fn check_cell(figure: u64, cell: cells::Cell) -> Result<(), Refusal> {
+    check_figure(figure)?;
+    match cell.column.max(cell.row) < figure {
+        true => Ok(()),
+        false => Err(Refusal { number: OUTSIDE_GRID, place: 0 }),
+    }
 }
 
 pub fn work_out(input: &[u8]) -> Result<Sheet, Refusal> {
@@ -114,7 +131,7 @@ impl<'a> Trial<'a> {
     fn grid(&mut self) {
         let (input, figure) = (self.input, self.figure());
         let expected = self.expected.and_then(|sheet| {
-            cells::check_figure(figure)?;
+            check_figure(figure)?;
             let cells = cells::count(&sheet.records, &sheet.rows, figure) as u64;
             Ok((GridRoll { rows: sheet.rows.len(), cells }, &sheet.roll[..]))
         });
@@ -148,7 +165,7 @@ impl<'a> Trial<'a> {
         let Cell { figure, column, row } = cell;
         let ids = self.expected.and_then(|sheet| {
             let cell = cells::Cell { column, row };
-            cells::check_cell(figure, cell)?;
+            check_cell(figure, cell)?;
             Ok(cells::ids_in(&sheet.records, &sheet.rows, figure, cell))
         });
         let listed = ids.map(|ids| (ids.len(), ids.iter().flat_map(|id| id.to_le_bytes()).collect::<Vec<u8>>()));
