@@ -14,6 +14,9 @@ use Rattle.sheet.specs.HandedIn.{noTrack, noWall}
 use Rattle.sheet.specs.declared.Track.{Track}
 use Rattle.sheet.specs.declared.Wall.{Wall}
 use Rattle.sheet.proofs.Lists.{mem-at}
+use Rattle.contact.specs.Answers.{TouchSmall}
+use Rattle.contact.specs.declared.Touch.{Touch}
+use Rattle.contact.specs.declared.Touch.the-variants.{Nowhere, Hit}
 use Rattle.rule.specs.declared.Row.{Row}
 use Rattle.rule.specs.Causes as rule
 use Rattle.rule.specs.Causes.{by-tip, by-side, by-rim, Below, _≼_, upTo}
@@ -27,9 +30,9 @@ use Rattle.rule.proofs.Selection.{up-fresh}
 use Rattle.rule.proofs.Turn.{Live, beats-better, beats-none, beats-hit, beats-void}
 use Rattle.causes.specs.declared.Cause.{Cause}
 use Rattle.causes.specs.Cause.{tipAt, wallAt, whyOf, candOf, Fine, Stands, Least}
-use Rattle.causes.specs.Offer.{AtEdge, wallCause, WallOffered, passed, struck, tipCause, TipOffered, itself, missed, void, met}
+use Rattle.causes.specs.Offer.{AtEdge, wallCause, WallOffered, passed, struck, tipCause, Reached, itself, missed, void, met, Taken, TipOffered}
 use Rattle.causes.specs.Looked.{endAt, Ends, FirstOfTracks}
-use Rattle.causes.proofs.Answers.{small-zero}
+use Rattle.causes.proofs.Answers.{small-zero, reached-small}
 use Rattle.causes.proofs.First.{≼-self, first-stands, first-left, first-right}
 
 -- a wall or the edge counts whatever has ended
@@ -214,11 +217,15 @@ module _ (S : Listing) (acc : Accepted S) (a : Track) (here : a ∈ S .tracks) (
         go y z (inl (x, _)) = subst (λ (z : Cause). Live done (candOf S z .u) (candOf S z .why)) (sym x) y
         go y z (inr (x, _)) = subst (λ (z : Cause). Live done (candOf S z .u) (candOf S z .why)) (sym x) z
 
+    tip-taken : {c r : Cause} {t : Touch} → Stands S a c → Reached a b (getD over k 0) (getD table (7 * k) 0) (getD table (7 * k + 1) 0) t → Taken b k t c r → FirstOfTracks S done a (λ (j : ℕ). j ≡ k) c r
+    tip-taken {c} {r} s (itself e x) l = subst (FirstOfTracks S done a (λ (j : ℕ). j ≡ k) c) (sym (subst (λ (z : Touch). Taken b k z c r) x l)) (tip-skip s (λ n. absurd (n e)))
+    tip-taken {c} {r} s (missed e x) l = subst (FirstOfTracks S done a (λ (j : ℕ). j ≡ k) c) (sym (subst (λ (z : Touch). Taken b k z c r) x l)) (tip-skip s (λ n. beats-none e))
+    tip-taken {c} {r} s (void u v e n h x) l =
+        subst (FirstOfTracks S done a (λ (j : ℕ). j ≡ k) c) (sym (subst (λ (z : Touch). Taken b k z c r) x l)) (tip-skip s (λ y. beats-void u v e (≤ᵗ-<ᵗ-trans (≈ᵗ→≤ᵗ (ends .ended k in-tracks n .stops u)) h)))
+    tip-taken {c} {r} s (met u ud v vd n e q h g x) l = tip-hit u ud v vd s n e q h g (subst (λ (z : Touch). Taken b k z c r) x l)
+
     pub tip-next : {c r : Cause} → Stands S a c → TipOffered a b k (getD over k 0) (getD table (7 * k) 0) (getD table (7 * k + 1) 0) c r → FirstOfTracks S done a (λ (j : ℕ). j ≡ k) c r
-    tip-next {c} s (itself e x) = subst (FirstOfTracks S done a (λ (j : ℕ). j ≡ k) c) (sym x) (tip-skip s (λ n. absurd (n e)))
-    tip-next {c} s (missed e x) = subst (FirstOfTracks S done a (λ (j : ℕ). j ≡ k) c) (sym x) (tip-skip s (λ n. beats-none e))
-    tip-next {c} s (void u v e n h x) = subst (FirstOfTracks S done a (λ (j : ℕ). j ≡ k) c) (sym x) (tip-skip s (λ y. beats-void u v e (≤ᵗ-<ᵗ-trans (≈ᵗ→≤ᵗ (ends .ended k in-tracks n .stops u)) h)))
-    tip-next s (met u ud v vd n e q h g l) = tip-hit u ud v vd s n e q h g l
+    tip-next s o = tip-taken s (o .reached) (o .taken)
 
 -- ---- numbers of times, whatever the sheet
 
@@ -226,8 +233,9 @@ pub wall-fine : {a : Track} {w : Wall} {k : ℕ} {c r : Cause} → Fine c → Wa
 wall-fine p (passed e x) = subst Fine (sym x) p
 wall-fine p (struck u ud e h l) = first-fine p (record { at = h; there = small-zero }) l
 
+taken-fine : (b : Track) (k : ℕ) {c r : Cause} (t : Touch) → Fine c → TouchSmall t → Taken b k t c r → Fine r
+taken-fine b k Nowhere p h l = subst Fine (sym l) p
+taken-fine b k (Hit u ud s sd) p h l = first-fine p (record { at = h .0; there = h .1 }) l
+
 pub tip-fine : {a b : Track} {k ended n d : ℕ} {c r : Cause} → Fine c → TipOffered a b k ended n d c r → Fine r
-tip-fine p (itself e x) = subst Fine (sym x) p
-tip-fine p (missed e x) = subst Fine (sym x) p
-tip-fine p (void u s e n h x) = subst Fine (sym x) p
-tip-fine p (met u ud s sd n e q h g l) = first-fine p (record { at = h; there = g }) l
+tip-fine {a} {b} {k} p o = taken-fine b k (o .touch) p (reached-small (o .reached)) (o .taken)

@@ -5,9 +5,10 @@ ghost use Prim.Native.Nat.{_+_, _≤_, _<_};
 ghost use lib.ListN.{length};
 ghost use Rattle.sheet.specs.Accepted.{TrackOk, WallOk};
 ghost use Rattle.exact.specs.Small.{Small};
+ghost use Rattle.contact.specs.Answers.{TouchSmall};
 ghost use Rattle.lines.specs.Lines.{Tracked, Walled};
-ghost use Rattle.causes.specs.Cause.{Fine, Least};
-ghost use Rattle.causes.specs.Offer.{AtEdge, WallOffered, TipOffered};
+ghost use Rattle.causes.specs.Cause.{Fine, Tells, Least};
+ghost use Rattle.causes.specs.Offer.{AtEdge, WallOffered, Reached, Taken};
 ghost use Rattle.causes.specs.Looked.{Reaches, WallsLooked, TracksLooked, Tables};
 use contact::Moment;
 use contact::Touch;
@@ -26,24 +27,35 @@ pub struct Cause {
     pub sd: u64,
 }
 
-// The cause that comes first: by time, then "a track counts before a wall, a wall before the edge", then "the smallest id is named".
-pub fn least(a: Cause, b: Cause) -> Cause
+// Does a come before b: by time, then "a track counts before a wall, a wall before the edge", then "the smallest id is named"?
+fn ahead(a: Cause, b: Cause) -> bool
     requires { ⌜ Fine a × Fine b ⌝ }
-    ensures { λ r. ⌜ Least a b r ⌝ }
+    ensures { λ r. ⌜ Tells a b r ⌝ }
 {
     if contact::not_later(a.u, a.ud, b.u, b.ud) {
         if contact::not_later(b.u, b.ud, a.u, a.ud) {
             if a.class < b.class {
-                return a;
+                return true;
             }
             if b.class < a.class {
-                return b;
+                return false;
             }
             if a.id <= b.id {
-                return a;
+                return true;
             }
-            return b;
+            return false;
         }
+        return true;
+    }
+    false
+}
+
+// The cause that comes first.
+pub fn least(a: Cause, b: Cause) -> Cause
+    requires { ⌜ Fine a × Fine b ⌝ }
+    ensures { λ r. ⌜ Least a b r ⌝ }
+{
+    if ahead(a, b) {
         return a;
     }
     b
@@ -86,64 +98,68 @@ fn with_wall(c: Cause, a: Track, w: Wall, k: usize) -> Cause
         Moment::At(u, ud) => {
             let id = w.id as u64;
             let who = k as u64;
-            least(
-                c,
-                Cause {
-                    u,
-                    ud,
-                    class: 1,
-                    id,
-                    who,
-                    s: 0,
-                    sd: 1,
-                },
-            )
+            let found = Cause {
+                u,
+                ud,
+                class: 1,
+                id,
+                who,
+                s: 0,
+                sd: 1,
+            };
+            if ahead(c, found) {
+                return c;
+            }
+            found
         }
     }
 }
 
-// The first of c and the track b, the sheet's k-th, unless its tip ended, at e / ed, before it was there.
-pub fn with_track(c: Cause, a: Track, b: Track, k: usize, ended: u64, e: u64, ed: u64) -> Cause
-    requires { ⌜ Fine c × TrackOk a × TrackOk b × ((ended ≡ 0 → ⊥) → Small e ed) ⌝ }
-    ensures { λ r. ⌜ TipOffered a b k ended e ed c r ⌝ }
+// Where tip a comes to the trace of b: nowhere if that is its own, or if b's tip ended, at e / ed, before it was there.
+pub fn on_trace(a: Track, b: Track, ended: u64, e: u64, ed: u64) -> Touch
+    requires { ⌜ TrackOk a × TrackOk b × ((ended ≡ 0 → ⊥) → Small e ed) ⌝ }
+    ensures { λ r. ⌜ Reached a b ended e ed r ⌝ }
 {
     if b.id == a.id {
-        return c;
+        return Touch::Nowhere;
     }
     match contact::contact_of(a, b) {
+        Touch::Nowhere => Touch::Nowhere,
+        Touch::Hit { u, ud, s, sd } => {
+            if ended == 0 {
+                return Touch::Hit { u, ud, s, sd };
+            }
+            if contact::not_later(s, sd, e, ed) {
+                return Touch::Hit { u, ud, s, sd };
+            }
+            Touch::Nowhere
+        }
+    }
+}
+
+// The first of c and the track b, the sheet's k-th, which the tip comes to by t. Apart from `on_trace`, so that a tip which comes to nothing costs no copy of c; it tests for itself in place of `least`, since a cause chosen from two places is kept in memory.
+pub fn with_track(c: Cause, b: Track, k: usize, t: Touch) -> Cause
+    requires { ⌜ Fine c × TouchSmall t ⌝ }
+    ensures { λ r. ⌜ Taken b k t c r ⌝ }
+{
+    match t {
         Touch::Nowhere => c,
         Touch::Hit { u, ud, s, sd } => {
             let id = b.id as u64;
             let who = k as u64;
-            if ended == 0 {
-                return least(
-                    c,
-                    Cause {
-                        u,
-                        ud,
-                        class: 0,
-                        id,
-                        who,
-                        s,
-                        sd,
-                    },
-                );
+            let found = Cause {
+                u,
+                ud,
+                class: 0,
+                id,
+                who,
+                s,
+                sd,
+            };
+            if ahead(c, found) {
+                return c;
             }
-            if contact::not_later(s, sd, e, ed) {
-                return least(
-                    c,
-                    Cause {
-                        u,
-                        ud,
-                        class: 0,
-                        id,
-                        who,
-                        s,
-                        sd,
-                    },
-                );
-            }
-            c
+            found
         }
     }
 }
@@ -207,7 +223,8 @@ pub fn look_tracks(
         if known[at + k] != 0 {
             let b = lines::track_at(starts, speeds, k);
             let p = 7 * k;
-            c = with_track(c, a, b, k, over[k], table[p], table[p + 1]);
+            let t = on_trace(a, b, over[k], table[p], table[p + 1]);
+            c = with_track(c, b, k, t);
         }
         k += 1;
     }

@@ -19,13 +19,26 @@ use causes::Region;
 use sheet::Sheet;
 use sheet::Track;
 
-// What the next tip to end is found by: ended tips behind the running ones, then by time, then by id.
+// What the next tip to end is found by: ended tips behind the running ones, then by time, then by id. All fields are words, so that a copy has no gaps to carry along.
 pub struct Key {
     pub over: u64,
     pub u: u64,
     pub ud: u64,
-    pub id: u16,
+    pub id: u64,
     pub at: usize,
+}
+
+fn key_of(over: u64, u: u64, ud: u64, id: u16, at: usize) -> Key
+    ensures { λ r. ⌜ r ≡ record { over = over; u = u; ud = ud; id = id; at = at } ⌝ }
+{
+    let id = id as u64;
+    Key {
+        over,
+        u,
+        ud,
+        id,
+        at,
+    }
 }
 
 // The key that comes first.
@@ -56,24 +69,12 @@ fn pick(starts: &[u16], n: usize, table: &[u64], over: &[u64]) -> usize
     requires { ⌜ (0 < n) × Keyed (now starts) n (now table) (now over) ⌝ }
     ensures { λ r. ⌜ Picked (now (starts .entry)) n (now (table .entry)) (now (over .entry)) n r ⌝ }
 {
-    let mut best = Key {
-        over: over[0],
-        u: table[0],
-        ud: table[1],
-        id: starts[0],
-        at: 0,
-    };
+    let mut best = key_of(over[0], table[0], table[1], starts[0], 0);
     let mut i: usize = 0;
     while i < n {
         let p = 7 * i;
-        let key = Key {
-            over: over[i],
-            u: table[p],
-            ud: table[p + 1],
-            id: starts[3 * i],
-            at: i,
-        };
-        best = sooner(best, key);
+        let next = key_of(over[i], table[p], table[p + 1], starts[3 * i], i);
+        best = sooner(best, next);
         i += 1;
     }
     best.at

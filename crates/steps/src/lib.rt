@@ -33,7 +33,8 @@ pub fn offer(
     let b = lines::track_at(starts, speeds, j);
     let best = table::load(table, i);
     let p = 7 * j;
-    let d = causes::with_track(best, a, b, j, over[j], table[p], table[p + 1]);
+    let t = causes::on_trace(a, b, over[j], table[p], table[p + 1]);
+    let d = causes::with_track(best, b, j, t);
     table::store(table, i, d);
 }
 
