@@ -1,9 +1,10 @@
-//! Links the tests and the robustness run with the proved static library, which `bindings/run` and `bindings/robust` build first.
+//! Links whatever uses this package with the proved static library.
 
 fn main() {
-    let root = std::env::var("CARGO_MANIFEST_DIR").unwrap();
-    let library = format!("{root}/../target/staticlib/libexports.a");
-    println!("cargo:rustc-link-arg-tests={library}");
-    println!("cargo:rustc-link-arg-bins={library}");
+    let folder = format!("{}/../target/staticlib", std::env::var("CARGO_MANIFEST_DIR").unwrap());
+    let library = format!("{folder}/libexports.a");
+    assert!(std::path::Path::new(&library).exists(), "no {library}: run `rt staticlib exports` first");
+    println!("cargo:rustc-link-search=native={folder}");
+    println!("cargo:rustc-link-lib=static=exports");
     println!("cargo:rerun-if-changed={library}");
 }

@@ -1,9 +1,10 @@
-//! The grid run against the plain run and against the same algorithm in Rust, at the six figures.
+//! The grid run against the plain run and against the same algorithm in Rust, at the six figures: each call less the scan of the bytes.
 
 use crate::sheets::Timed;
+use crate::table::{self, head, row};
 use crate::timing::least_of_each;
-use crate::{proved, ROLL};
 use bench::{grid, selection};
+use fissures::{GridRoll, LONGEST_ROLL};
 use reference::cells::{counts, FIGURES};
 use reference::roll::{roll, roll_bytes};
 use std::hint::black_box;
@@ -21,11 +22,51 @@ impl Times {
     fn over_plain(&self) -> [f64; 6] {
         self.grid.map(|grid| grid / self.plain)
     }
+
+    fn cells(&self, name: &str, side: &str) -> Vec<String> {
+        let times = [self.plain].into_iter().chain(self.grid).map(table::time);
+        row(name, [side.to_string()].into_iter().chain(times))
+    }
+
+    /// The least ratio to the plain run with its figure, and the ratio at 8.
+    fn summary(&self) -> [String; 2] {
+        let ratios = self.over_plain();
+        let (best, figure) = ratios.into_iter().zip(FIGURES).min_by(|a, b| a.0.total_cmp(&b.0)).expect("six figures");
+        [format!("{best:.2} (g = {figure})"), table::ratio(ratios[3])]
+    }
 }
 
-struct Measured {
+struct Measured<'a> {
+    timed: &'a Timed,
     rust: Times,
-    proved: Option<Times>,
+    proved: Times,
+}
+
+impl Measured<'_> {
+    /// The proved times over those in Rust.
+    fn ratios(&self) -> [f64; 7] {
+        let over = |proved: f64, rust: f64| proved / rust;
+        let mut ratios = [over(self.proved.plain, self.rust.plain); 7];
+        for (i, ratio) in ratios[1..].iter_mut().enumerate() {
+            *ratio = over(self.proved.grid[i], self.rust.grid[i]);
+        }
+        ratios
+    }
+
+    fn lines(&self) -> [Vec<String>; 3] {
+        let ratios = ["ratio".to_string()].into_iter().chain(self.ratios().map(table::ratio));
+        [self.rust.cells(&self.timed.name(), "in Rust"), self.proved.cells("", "proved"), row("", ratios)]
+    }
+
+    fn summary(&self) -> Vec<String> {
+        let [least, most] =
+            [f64::min, f64::max].map(|of| self.ratios()[1..].iter().copied().reduce(of).expect("six figures"));
+        let star = if self.timed.is_full_with_short_traces() { " *" } else { "" };
+        let side = format!("1/{:.0}", self.timed.mean_lengths_in_a_side());
+        let range = format!("{least:.2} to {most:.2}");
+        let cells = [vec![side], self.proved.summary().into(), self.rust.summary().into(), vec![range]];
+        row(&(self.timed.name() + star), cells.concat())
+    }
 }
 
 /// Both give the outside implementation's rows and cells.
@@ -38,10 +79,9 @@ fn check(timed: &Timed) {
         let rust = grid::roll(&timed.records, figure, &mut out);
         assert!(rust == cells as u64 && out == bytes, "{place}: in Rust");
         let mut out = vec![0; bytes.len()];
-        if let Some(answer) = proved::grid(&timed.bytes, figure, &mut out) {
-            let expected = ((0, rows.len() as u64), cells as u64);
-            assert!(answer == expected && out == bytes, "{place}: proved");
-        }
+        let proved = fissures::grid(&timed.bytes, figure, &mut out);
+        let expected = Ok(GridRoll { rows: rows.len(), cells: cells as u64 });
+        assert!(proved == expected && out == bytes, "{place}: proved");
     }
 }
 
@@ -53,60 +93,36 @@ fn check_in_little_stack(sheets: &[Timed]) {
     });
 }
 
-fn measure(timed: &Timed) -> Measured {
+fn measure(timed: &Timed) -> Measured<'_> {
     let Timed { bytes, records, .. } = timed;
-    let mut out = [0; ROLL];
-    let has_grid = proved::grid(bytes, 1, &mut out).is_some();
+    let mut out = [0; LONGEST_ROLL];
     let [rust_plain, scan, call, rest @ ..] = least_of_each::<15>(|call| match call {
         0 => selection::roll(black_box(records), &mut out),
-        1 => drop(black_box(proved::check(black_box(bytes)))),
-        2 => drop(black_box(proved::plain(black_box(bytes), &mut out))),
+        1 => drop(black_box(fissures::check(black_box(bytes)))),
+        2 => drop(black_box(fissures::plain(black_box(bytes), &mut out))),
         3..9 => drop(black_box(grid::roll(black_box(records), FIGURES[call - 3], &mut out))),
-        _ => drop(black_box(proved::grid(black_box(bytes), FIGURES[call - 9], &mut out))),
+        _ => drop(black_box(fissures::grid(black_box(bytes), FIGURES[call - 9], &mut out))),
     });
     let [rust, proved] = [0, 6].map(|from| std::array::from_fn(|i| rest[from + i]));
     let proved = Times { plain: call - scan, grid: proved.map(|time: f64| time - scan) };
-    Measured { rust: Times { plain: rust_plain, grid: rust }, proved: has_grid.then_some(proved) }
-}
-
-fn print_line(what: &str, times: &Times) {
-    print!("  {what:8} {:10.1} |", times.plain);
-    for (grid, ratio) in times.grid.iter().zip(times.over_plain()) {
-        print!(" {grid:9.1} {ratio:5.2}");
-    }
-    println!();
-}
-
-fn print_times(timed: &Timed, Measured { rust, proved }: &Measured) {
-    println!("{}, the mean trace 1/{:.0} of the sheet", timed.name(), timed.mean_lengths_in_a_side());
-    print_line("Rust", rust);
-    let Some(proved) = proved else { return };
-    print_line("proved", proved);
-    print!("  {:8} {:10.2} |", "ratio", proved.plain / rust.plain);
-    for (proved, rust) in proved.grid.iter().zip(rust.grid) {
-        print!(" {:9.2}      ", proved / rust);
-    }
-    println!();
-}
-
-/// The least ratio to the plain run with its figure, and the ratio at 8.
-fn summary(times: &Times) -> String {
-    let ratios = times.over_plain();
-    let best = FIGURES.iter().zip(ratios).min_by(|a, b| a.1.total_cmp(&b.1)).expect("six figures");
-    format!("{:5.2} at {:2}, {:5.2} at 8", best.1, best.0, ratios[3])
+    Measured { timed, rust: Times { plain: rust_plain, grid: rust }, proved }
 }
 
 pub fn print(sheets: &[Timed]) {
     check_in_little_stack(sheets);
-    println!("grid run, microseconds: plain run; grid run at 1, 2, 4, 8, 16, 32, each with its ratio to the plain run");
     let measured: Vec<Measured> = sheets.iter().map(measure).collect();
-    for (timed, times) in sheets.iter().zip(&measured) {
-        print_times(timed, times);
-    }
-    println!("grid run over plain run, at the best figure and at 8: in Rust; proved; * 256 tracks with short traces");
-    for (timed, Measured { rust, proved }) in sheets.iter().zip(&measured) {
-        let mark = if timed.is_full_with_short_traces() { "*" } else { "" };
-        let proved = proved.as_ref().map(summary).unwrap_or_default();
-        println!("{:30} {mark:1} {}  {proved}", timed.name(), summary(rust));
-    }
+    println!("## The grid run\n");
+    let figures = FIGURES.map(|figure| format!("g = {figure}"));
+    let times = ["", "plain run"].map(String::from).into_iter().chain(figures);
+    table::print(&head("sheet", times), measured.iter().flat_map(Measured::lines));
+    println!("The grid run over the plain run, and over the same algorithm in Rust at any figure; * 256 tracks with short traces.\n");
+    let columns = [
+        "mean trace in sides",
+        "best over plain",
+        "at g = 8",
+        "in Rust: best",
+        "in Rust: at g = 8",
+        "proved over Rust",
+    ];
+    table::print(&head("sheet", columns), measured.iter().map(Measured::summary));
 }

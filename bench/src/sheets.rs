@@ -23,8 +23,13 @@ impl Timed {
 
     /// The kind, and what the sheet holds, which may be fewer records than were wanted.
     pub fn name(&self) -> String {
-        let Records { tracks, walls } = &self.records;
-        format!("{} {} tracks {} walls", self.kind, tracks.len(), walls.len())
+        let [tracks, walls] = [self.records.tracks.len(), self.records.walls.len()];
+        let walls = if walls == 0 { String::new() } else { format!(", {walls} walls") };
+        format!("{}, {tracks} tracks{walls}", self.kind)
+    }
+
+    pub fn half(&self) -> usize {
+        self.records.tracks.len() / 2
     }
 
     /// The sheet's side in mean lengths of its traces.

@@ -1,4 +1,5 @@
-//! The proved library (crates/exports) behind safe functions. Only this file and the guard pages of `robust` have `unsafe` code.
+//! The proved library (crates/exports) behind safe functions; examples/rust is a whole program over them. Only this file and the guard
+//! pages of `robust` have `unsafe` code.
 
 mod c {
     extern "C" {
@@ -60,8 +61,10 @@ pub struct Cell {
     pub row: u64,
 }
 
-/// The bytes of a row of a roll.
+/// Bytes of a row: id 2, kind 1, partner 2, time's numerator 8 and denominator 8, x and y in 64ths 4 each; all little-endian.
 pub const ROW: usize = 29;
+/// Room for the roll of any sheet.
+pub const LONGEST_ROLL: usize = 256 * ROW;
 
 fn answer(number: u64, second: u64) -> Result<usize, Refusal> {
     match number {

@@ -1,6 +1,8 @@
 /* Reads a sheet from standard input and prints its roll, or its refusal, with the proved library: what program `roll` prints.
+ * From the repository's root:
  *   rt staticlib exports
  *   cc -std=c99 -Ibindings examples/c/roll.c target/staticlib/libexports.a -o target/roll-c
+ *   target/roll-c < examples/A.sheet
  */
 #include <inttypes.h>
 #include <stdio.h>
@@ -11,12 +13,14 @@
 static uint8_t sheet[5132];
 static uint8_t roll[FISSURE_LONGEST_ROLL];
 
+/* The number that some bytes stand for, low byte first. */
 static uint64_t number_at(const uint8_t *bytes, int width) {
     uint64_t number = 0;
     while (width-- > 0) number = number << 8 | bytes[width];
     return number;
 }
 
+/* id, kind, partner, time, x and y */
 static void print_row(const uint8_t *row) {
     printf("%" PRIu64 " %" PRIu64 " %" PRIu64 " ", number_at(row, 2), number_at(row + 2, 1), number_at(row + 3, 2));
     printf("%" PRIu64 "/%" PRIu64 " ", number_at(row + 5, 8), number_at(row + 13, 8));
@@ -24,8 +28,13 @@ static void print_row(const uint8_t *row) {
 }
 
 int main(void) {
-    uint64_t second, cells;
+    uint64_t second; /* the number of rows, or the place of a refusal */
+    uint64_t cells;
     size_t length = fread(sheet, 1, sizeof sheet, stdin);
+    if (ferror(stdin)) {
+        perror("roll-c");
+        return 1;
+    }
     uint64_t refusal = fissure_grid(sheet, length, 8, roll, sizeof roll, &second, &cells);
     if (refusal != FISSURE_ACCEPTED) {
         printf("refused %" PRIu64 " %" PRIu64 "\n", refusal, second);

@@ -29,6 +29,11 @@ impl Fraction {
         (64 * self.num).div_euclid(self.den)
     }
 
+    /// This many hundredths, rounded down.
+    pub fn in_hundredths(self) -> i64 {
+        (100 * self.num).div_euclid(self.den) as i64
+    }
+
     /// A length or place in units of the sheet, to six decimals.
     pub fn units(self) -> String {
         self.decimal(6)

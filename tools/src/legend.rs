@@ -6,6 +6,11 @@ pub const WIDTH: i128 = 200;
 /// Colours of the kinds 1 to 4 that also differ for the colour-blind.
 pub const COLOURS: [&str; 4] = ["#0072b2", "#d55e00", "#009e73", "#cc79a7"];
 
+/// Beyond the edge.
+pub const OUTSIDE: &str = "#ececec";
+pub const TOUCHED: &str = "#fbeeb8";
+pub const GRID: &str = "#aaa";
+
 const KINDS: [&str; 4] = [
     "1 ends at an earlier trace",
     "2 meets a tip, both end",
@@ -20,20 +25,30 @@ pub fn draw(x: &str, shaded: Option<u16>) -> String {
         let mark = format!("<circle cx=\"17\" cy=\"0\" r=\"4\" fill=\"{colour}\"/>");
         text += &entry(index, &mark, words);
     }
-    text += &entry(4, &line("#777", 1), "trace, id at its start");
+    text += &entry(4, &started(), "trace, id at its start");
     text += &entry(5, &line("#000", 3), "wall, id after w");
     text += &entry(6, &dashed(), "edge of the sheet");
+    text += &entry(7, &area(OUTSIDE, OUTSIDE), "outside the sheet");
     if let Some(figure) = shaded {
-        let mark = "<rect x=\"8\" y=\"-5\" width=\"18\" height=\"10\" fill=\"#fbeeb8\"/>";
-        text += &entry(7, mark, &format!("cell touched, g = {figure}"));
+        text += &entry(8, &area(TOUCHED, GRID), &format!("cell touched, g = {figure}"));
     }
     text + "</g>\n"
 }
 
 /// One line of the legend: a mark and its meaning.
 fn entry(index: usize, mark: &str, words: &str) -> String {
-    let y = 20 + 22 * index;
+    let y = 20 + 20 * index;
     format!("<g transform=\"translate(0 {y})\">{mark}<text x=\"34\" y=\"4\">{words}</text></g>\n")
+}
+
+fn started() -> String {
+    line("#555", 1) + "<circle cx=\"8\" cy=\"0\" r=\"2\" fill=\"#555\"/>"
+}
+
+fn area(fill: &str, border: &str) -> String {
+    format!(
+        "<rect x=\"8\" y=\"-5\" width=\"18\" height=\"10\" fill=\"{fill}\" stroke=\"{border}\"/>"
+    )
 }
 
 fn line(colour: &str, width: u8) -> String {

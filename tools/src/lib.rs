@@ -5,6 +5,7 @@
 
 pub mod cells;
 pub mod fraction;
+mod ids;
 pub mod legend;
 pub mod listing;
 pub mod picture;

@@ -3,10 +3,11 @@
 
 use crate::cells;
 use crate::fraction::Fraction;
+use crate::ids;
 use crate::legend;
-use crate::sheet::{Command, Track, Wall};
+use crate::sheet::{Command, Wall};
 use crate::trace::Trace;
-use crate::view::View;
+use crate::view::{in_64ths, View};
 use std::collections::BTreeSet;
 
 /// What the picture shows besides the traces and walls.
@@ -35,16 +36,20 @@ pub fn draw(commands: &[Command], traces: &[Trace], options: Options) -> String 
         "<svg xmlns=\"http://www.w3.org/2000/svg\" width=\"{total}\" height=\"{high}\" \
          font-family=\"sans-serif\" font-size=\"11\">\n\
          <rect width=\"{total}\" height=\"{high}\" fill=\"#fff\"/>\n\
+         <rect width=\"{wide}\" height=\"{high}\" fill=\"{}\"/>\n\
          <svg width=\"{wide}\" height=\"{high}\" viewBox=\"{}\">\n<g transform=\"scale(1 -1)\">\n",
+        legend::OUTSIDE,
         view.view_box()
     );
+    svg += &sheet(&view, "fill=\"#fff\"");
     svg += &grid(&shaded, options.grid, &view);
     svg += &edge(&view);
     svg += &wall_lines(&walls, &view);
     svg += &trace_lines(traces, &view);
     svg += &marks(traces, &view);
     svg += "</g>\n</svg>\n";
-    svg += &ids(&walls, traces, &view);
+    svg += &format!("<rect width=\"{wide}\" height=\"{high}\" fill=\"none\" stroke=\"#ccc\"/>\n");
+    svg += &ids::draw(&walls, traces, &view);
     svg += &legend::draw(&wide, options.grid);
     svg + "</svg>\n"
 }
@@ -54,10 +59,6 @@ fn as_wall(command: &Command) -> Option<Wall> {
         Command::Wall(wall) => Some(*wall),
         Command::Track(_) => None,
     }
-}
-
-fn in_64ths(x: u16, y: u16) -> (i64, i64) {
-    (64 * i64::from(x), 64 * i64::from(y))
 }
 
 /// Lower left and upper right corners of the shaded cells.
@@ -86,26 +87,35 @@ fn points(walls: &[Wall], traces: &[Trace], corners: &[(i64, i64)]) -> Vec<(i64,
 fn grid(shaded: &BTreeSet<(u16, u16)>, figure: Option<u16>, view: &View) -> String {
     let Some(figure) = figure else { return String::new() };
     let side = cells::side(figure);
-    let mut text = "<g fill=\"#fbeeb8\">\n".to_string();
+    let mut text = format!("<g fill=\"{}\">\n", legend::TOUCHED);
     for (column, row) in shaded {
         let (x, y) = (column * side, row * side);
         text += &format!("<rect x=\"{x}\" y=\"{y}\" width=\"{side}\" height=\"{side}\"/>\n");
     }
-    text += &format!("</g>\n<g stroke=\"#ccc\" stroke-width=\"{}\">\n", view.tenths(5));
+    text += &format!("</g>\n<g stroke=\"{}\" stroke-width=\"{}\">\n", legend::GRID, view.tenths(7));
     for place in (0..=figure).map(|index| index * side) {
         text += &format!("<path d=\"M{place} 0V4096M0 {place}H4096\"/>\n");
     }
     text + "</g>\n"
 }
 
+/// The rectangle of the sheet, as far as the view shows it.
+fn sheet(view: &View, style: &str) -> String {
+    let [left, bottom, right, top] = view.sheet();
+    let units = |value: i64| Fraction::new(value.into(), 64).units();
+    let (wide, high) = (units(right - left), units(top - bottom));
+    let (left, bottom) = (units(left), units(bottom));
+    format!("<rect x=\"{left}\" y=\"{bottom}\" width=\"{wide}\" height=\"{high}\" {style}/>\n")
+}
+
 fn edge(view: &View) -> String {
-    format!(
-        "<rect width=\"4095\" height=\"4095\" fill=\"none\" stroke=\"#999\" stroke-width=\"{}\" \
-         stroke-dasharray=\"{} {}\"/>\n",
+    let style = format!(
+        "fill=\"none\" stroke=\"#999\" stroke-width=\"{}\" stroke-dasharray=\"{} {}\"",
         view.tenths(10),
         view.tenths(40),
         view.tenths(30)
-    )
+    );
+    sheet(view, &style)
 }
 
 fn wall_lines(walls: &[Wall], view: &View) -> String {
@@ -118,7 +128,7 @@ fn wall_lines(walls: &[Wall], view: &View) -> String {
 
 /// The traces to their exact ends.
 fn trace_lines(traces: &[Trace], view: &View) -> String {
-    let mut text = format!("<g stroke=\"#777\" stroke-width=\"{}\">\n", view.tenths(12));
+    let mut text = format!("<g stroke=\"#555\" stroke-width=\"{}\">\n", view.tenths(14));
     for trace in traces {
         let (x, y) = trace.end();
         text += &format!(
@@ -134,7 +144,7 @@ fn trace_lines(traces: &[Trace], view: &View) -> String {
 
 /// The starts, and the end points coloured by kind.
 fn marks(traces: &[Trace], view: &View) -> String {
-    let mut text = "<g fill=\"#777\">\n".to_string();
+    let mut text = "<g fill=\"#555\">\n".to_string();
     for trace in traces {
         let (x, y) = (trace.track.x, trace.track.y);
         text += &format!("<circle cx=\"{x}\" cy=\"{y}\" r=\"{}\"/>\n", view.tenths(20));
@@ -164,41 +174,4 @@ fn ending(trace: &Trace) -> String {
         _ => "the edge".to_string(),
     };
     format!("track {} ends at {}, time {}", row.id, cause, row.time.ratio())
-}
-
-/// The ids: of a track behind its start, of a wall at its middle.
-fn ids(walls: &[Wall], traces: &[Trace], view: &View) -> String {
-    let font = if traces.len() > 32 { 7 } else { 10 };
-    let mut text = format!("<g text-anchor=\"middle\" font-size=\"{font}\">\n");
-    for Trace { track, .. } in traces {
-        text += &label(view, in_64ths(track.x, track.y), behind(track), &track.id.to_string());
-    }
-    for wall in walls {
-        let ((ax, ay), (bx, by)) = (in_64ths(wall.ax, wall.ay), in_64ths(wall.bx, wall.by));
-        text += &label(view, ((ax + bx) / 2, (ay + by) / 2), (11, -8), &format!("w{}", wall.id));
-    }
-    text + "</g>\n"
-}
-
-/// Pixels across and down to the place behind a start, on the axis of the greater speed.
-fn behind(track: &Track) -> (i128, i128) {
-    if track.vx.unsigned_abs() > track.vy.unsigned_abs() {
-        (-11 * i128::from(track.vx.signum()), 0)
-    } else {
-        (0, 11 * i128::from(track.vy.signum()))
-    }
-}
-
-/// A label a few pixels from a point; nothing where the point is not shown.
-fn label(view: &View, (x, y): (i64, i64), shift: (i128, i128), words: &str) -> String {
-    if !view.holds(x, y) {
-        return String::new();
-    }
-    let (across, down) = view.pixels(x, y);
-    let near = |place: Fraction, by: i128| place.along(by, 1).pixels();
-    format!(
-        "<text x=\"{}\" y=\"{}\">{words}</text>\n",
-        near(across, shift.0),
-        near(down, shift.1 + 3)
-    )
 }

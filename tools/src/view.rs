@@ -7,6 +7,16 @@ const LONG: i64 = 640;
 /// The shorter side is at least this.
 const SHORT: i64 = 200;
 
+/// The margin of a point alone.
+const ALONE: i64 = 64 * 10;
+/// The sheet's side.
+const SIDE: u16 = 4095;
+
+/// A point given in units.
+pub fn in_64ths(x: u16, y: u16) -> (i64, i64) {
+    (64 * i64::from(x), 64 * i64::from(y))
+}
+
 #[derive(Clone, Copy, Debug, PartialEq, Eq)]
 pub struct View {
     left: i64,
@@ -18,8 +28,7 @@ pub struct View {
 impl View {
     /// The rectangle between two corners given in units, with a margin.
     pub fn between(ax: u16, ay: u16, bx: u16, by: u16) -> View {
-        let [ax, ay, bx, by] = [ax, ay, bx, by].map(|value| 64 * i64::from(value));
-        View::around(&[(ax, ay), (bx, by)])
+        View::around(&[in_64ths(ax, ay), in_64ths(bx, by)])
     }
 
     /// The points with a margin; the whole sheet where there are none.
@@ -27,10 +36,13 @@ impl View {
         let xs = || points.iter().map(|point| point.0);
         let ys = || points.iter().map(|point| point.1);
         let (Some(left), Some(right)) = (xs().min(), xs().max()) else {
-            return View::around(&[(0, 0), (64 * 4095, 64 * 4095)]);
+            return View::between(0, 0, SIDE, SIDE);
         };
         let (bottom, top) = (ys().min().unwrap_or(0), ys().max().unwrap_or(0));
-        let margin = (right - left).max(top - bottom).max(64) / 14;
+        let margin = match (right - left).max(top - bottom) {
+            0 => ALONE,
+            extent => extent.max(64) / 14,
+        };
         View {
             left: left - margin,
             bottom: bottom - margin,
@@ -77,6 +89,16 @@ impl View {
         let units = |value: i64| Fraction::new(value.into(), 64).units();
         let (width, height) = (self.right - self.left, self.top - self.bottom);
         format!("{} {} {} {}", units(self.left), units(-self.top), units(width), units(height))
+    }
+
+    /// Left, bottom, right and top of the sheet. Far outside the view they are drawn nearer: a side
+    /// of a million dashes is too long for a viewer.
+    pub fn sheet(&self) -> [i64; 4] {
+        let out = self.longer();
+        let (right, top) = in_64ths(SIDE, SIDE);
+        let across = |x: i64| x.clamp(self.left - out, self.right + out);
+        let up = |y: i64| y.clamp(self.bottom - out, self.top + out);
+        [across(0), up(0), across(right), up(top)]
     }
 
     pub fn holds(&self, x: i64, y: i64) -> bool {

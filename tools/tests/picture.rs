@@ -92,6 +92,36 @@ fn texts_that_are_no_rolls_are_errors() {
     }
 }
 
+/// Where the ids of a picture stand, with their widths: those in the group before the legend.
+fn ids(svg: &str) -> Vec<[f64; 3]> {
+    let number = |text: &str, mark: &str| {
+        let (_, rest) = text.split_once(mark).unwrap();
+        rest.split_once('"').unwrap().0.parse::<f64>().unwrap()
+    };
+    let group = svg.split("<g text-anchor").nth(1).unwrap().split("</g>").next().unwrap();
+    let texts = group.lines().filter(|line| line.starts_with("<text"));
+    let digits = |line: &str| line.split('>').nth(1).unwrap().len() - "</text".len();
+    texts
+        .map(|line| [number(line, " x=\""), number(line, " y=\""), 6.0 * digits(line) as f64])
+        .collect()
+}
+
+#[test]
+fn ids_stand_apart() {
+    let found = NAMES.map(|name| {
+        let ids = ids(&picture(name, &[]).unwrap());
+        for (index, [x, y, wide]) in ids.iter().enumerate() {
+            for [x2, y2, wide2] in &ids[..index] {
+                let apart = (x - x2).abs() > (wide + wide2) / 2.0 || (y - y2).abs() > 8.0;
+                assert!(apart, "{name}: ids at {x} {y} and {x2} {y2}");
+            }
+        }
+        ids.len()
+    });
+    // There is no room for half of D's ids with two digits, nor for F's wall between trace 1 and the edge.
+    assert_eq!(found, [2, 2, 2, 36, 4, 2, 2, 2, 2, 1, 1, 2, 0]);
+}
+
 #[test]
 fn stored_pictures_are_the_drawn_ones() {
     let stored = |name: &str| std::fs::read_to_string(path(&format!("docs/pictures/{name}.svg")));
@@ -103,7 +133,9 @@ fn stored_pictures_are_the_drawn_ones() {
         assert_eq!(stored(&format!("{name}-near")).unwrap(), near, "{name}");
     }
     for name in ["A", "D"] {
-        let grid = picture(name, &["--grid", "8"]).unwrap();
+        let whole = ["--grid", "8", "--view", "0", "0", "4095", "4095"];
+        let options = if name == "A" { &whole[..] } else { &whole[..2] };
+        let grid = picture(name, options).unwrap();
         assert_eq!(stored(&format!("{name}-grid")).unwrap(), grid, "{name}");
     }
 }

@@ -2,7 +2,7 @@
 -- over what was read shows the sheet's one roll (`as-advanced`).
 use mathlib.Core.Path.{_≡_, refl, sym, ap, _∙_, subst}
 use mathlib.Core.List.{List}
-use Prim.Native.Nat.{ℕ, _+_, min}
+use Prim.Native.Nat.{ℕ, _+_, _*_, min}
 use lib.ListN.{length, take, drop}
 use Rattle.layout.specs.Bytes.{AllBytes}
 use Rattle.sheet.specs.declared.Sheet.{Sheet}
@@ -11,9 +11,12 @@ use Rattle.sheet.specs.Returned.{Returned, accepted, gives, refused}
 use Rattle.sheet.specs.Scan.{verdictOf, commandsOf}
 use Rattle.sheet.specs.Ordered.{orderedForm}
 use Rattle.sheet.specs.HandedIn.{handedIn, checkOf, sheetOf}
+use Rattle.sheet.specs.Lent.{andThen, orShort, after}
+use Rattle.sheet.proofs.Lent as ending
 use Rattle.sheet.proofs.RoundTrip.{handed-back, written-read}
 use Rattle.reader.specs.Reading.{recordsOf, ifAccepted}
-use Rattle.writer.specs.Written.{orShort, after, formOf, writeOf, bufferAfter}
+use Rattle.writer.specs.Written.{formOf, writeOf, bufferAfter}
+use Rattle.rule.specs.RowBytes.{rollBytes}
 use Rattle.rule.specs.Selection.{rollOf}
 use Rattle.plain_run.specs.declared.Rolled.{Rolled}
 use Rattle.plain_run.specs.Rolled.{rolled}
@@ -22,7 +25,7 @@ use Rattle.grid_run.specs.declared.GridRolled.the-variants.{Rows, Refused}
 use Rattle.grid_run.specs.GridRolled.{gridRolled, CountIn}
 use Rattle.session.specs.declared.Session.{Session}
 use Rattle.session.specs.declared.Advanced.{Advanced}
-use Rattle.session.specs.Stepping.{nextRows, advanceReturns, advanceSession, advanceBuffer, advanceOf, Advances}
+use Rattle.session.specs.Stepping.{nextRows, advanceReturns, advanceSession, advanceOf, Advances}
 use Rattle.exports.specs.Answers.{number, other, orderReturns, orderAfter, CellsEntered, rowsAfter, advanceAnswer, advanceAfter, shownAfter}
 
 -- the two numbers of an answer
@@ -34,8 +37,10 @@ two e = (ap number e, ap other e)
 
 module _ (s lent : List ℕ) where
   pub not-read : (n p : ℕ) → refused n p ≡ verdictOf s → Two (orderReturns s (length lent)) n p × (lent ≡ orderAfter s lent)
-  unfolding orShort after
-  not-read n p e = rw (sym e) ((refl, refl), refl)
+  not-read n p e =
+      let w = orderedForm (recordsOf s) in
+      let (a, b) = ending.as-refused w lent (length w) (length w) (sym e) in
+      (two a, b)
 
   pub as-written : AllBytes s → verdictOf s ≡ accepted → {sheet : Sheet} → sheet ≡ sheetOf (recordsOf s) → (writeOf sheet (length lent) ≡ orderReturns s (length lent)) × (bufferAfter sheet lent ≡ orderAfter s lent)
   as-written b e {sheet} q =
@@ -43,7 +48,7 @@ module _ (s lent : List ℕ) where
       let z : sheet ≡ sheetOf S = q ∙ ap (λ v. sheetOf (ifAccepted v S)) e in
       let w = written-read s b e in
       let f : formOf sheet ≡ orderedForm (recordsOf s) = ap formOf z ∙ w .written ∙ ap (λ v. orderedForm (ifAccepted v S)) (sym e) in
-      let r : writeOf sheet (length lent) ≡ orderReturns s (length lent) = (λ i. orShort ((ap checkOf z ∙ w .checked ∙ sym e) i) (length (f i)) (length lent)) in
+      let r : writeOf sheet (length lent) ≡ orderReturns s (length lent) = (λ i. andThen ((ap checkOf z ∙ w .checked ∙ sym e) i) (orShort (length (f i)) (length lent) (length (f i)))) in
       (r, λ i. after (r i) (f i) lent)
 
 -- the grid run's answer with its count
@@ -62,8 +67,10 @@ module _ (s lent : List ℕ) (shown n : ℕ) where
   Advanced-to first second after exit = let R = advanceAnswer s shown n (length lent) in Two R first second × (after ≡ shownAfter s shown R) × (exit ≡ advanceAfter s shown n lent)
 
   pub not-opened : (k p : ℕ) → refused k p ≡ verdictOf s → Advanced-to k p shown lent
-  unfolding advanceReturns advanceBuffer
-  not-opened k p e = rw (sym e) ((refl, refl), refl, refl)
+  not-opened k p e =
+      let rows = rowsAfter s shown n in
+      let (a, b) = ending.as-refused (rollBytes rows) lent (29 * length rows) (length rows) (sym e) in
+      (two a, ap (shownAfter s shown) a, b)
 
   shown-then : (t : Session) → handedIn (t .sheet) ≡ listing (commandsOf s) → (R : Returned) → advanceSession R t .shown ≡ shownAfter s (t .shown) R
   unfolding advanceSession
@@ -81,4 +88,4 @@ module _ (s lent : List ℕ) (shown n : ℕ) where
       let k : checkOf sheet ≡ verdictOf s = ap checkOf y ∙ written-read s b e .checked ∙ sym e in
       let rows : nextRows t n ≡ rowsAfter s shown n = ap (λ (T : Listing). take n (drop shown (rollOf T))) i in
       let q : advanceOf t n (length lent) ≡ advanceAnswer s shown n (length lent) = (λ j. advanceReturns (k j) (rows j) (length lent)) in
-      (two (sym (ap rolled f) ∙ h .answer ∙ q), ap (λ (u : Session). u .shown) (h .session) ∙ shown-then t i (advanceOf t n (length lent)) ∙ ap (λ (v : Returned). shownAfter s shown v) q, h .buffer ∙ (λ j. advanceBuffer (q j) (rows j) lent))
+      (two (sym (ap rolled f) ∙ h .answer ∙ q), ap (λ (u : Session). u .shown) (h .session) ∙ shown-then t i (advanceOf t n (length lent)) ∙ ap (λ (v : Returned). shownAfter s shown v) q, h .buffer ∙ (λ j. after (q j) (rollBytes (rows j)) lent))

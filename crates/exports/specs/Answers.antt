@@ -3,22 +3,23 @@ use mathlib.Core.Path.{_≡_}
 use mathlib.Core.List.{List}
 use Prim.Native.Nat.{ℕ, _+_, min}
 use lib.ListN.{length, take, drop}
+use Rattle.sheet.specs.Lent.{andThen, orShort, after}
 use Rattle.sheet.specs.Returned.{Returned, accepted, gives, refused}
 use Rattle.sheet.specs.Listing.{Listing, listing}
 use Rattle.sheet.specs.Scan.{verdictOf, commandsOf}
 use Rattle.sheet.specs.Ordered.{orderedForm}
 use Rattle.reader.specs.Reading.{recordsOf}
-use Rattle.writer.specs.Written.{orShort, after}
 use Rattle.rule.specs.declared.Row.{Row}
+use Rattle.rule.specs.RowBytes.{rollBytes}
 use Rattle.rule.specs.Rows.{timeOf}
 use Rattle.rule.specs.Selection.{rollOf}
 use Rattle.cells.specs.Grid.{side}
 use Rattle.cells.specs.Touched.{Counted}
-use Rattle.plain_run.specs.Rolled as Rolled
+use Rattle.plain_run.specs.Rolled.{rollReturns}
 use Rattle.grid_run.specs.GridRolled.{gridReturns}
 use Rattle.listing.specs.CellIds.{CellIds}
-use Rattle.listing.specs.Listed as Listed
-use Rattle.session.specs.Stepping.{advanceReturns, advanceBuffer}
+use Rattle.listing.specs.Listed.{idBytes, cellCheck, listReturns, cell}
+use Rattle.session.specs.Stepping.{advanceReturns}
 
 -- the table's number, 0 where nothing is refused
 abbrev pub number : Returned → ℕ
@@ -34,24 +35,24 @@ other (refused n p) = p
 
 -- reading a sheet and writing its ordered form
 abbrev pub orderReturns : List ℕ → ℕ → Returned
-orderReturns s lent = orShort (verdictOf s) (length (orderedForm (recordsOf s))) lent
+orderReturns s lent = let n = length (orderedForm (recordsOf s)) in andThen (verdictOf s) (orShort n lent n)
 
 abbrev pub orderAfter : List ℕ → List ℕ → List ℕ
 orderAfter s lent = after (orderReturns s (length lent)) (orderedForm (recordsOf s)) lent
 
 -- reading a sheet and writing its roll by the plain run
 abbrev pub plainReturns : List ℕ → ℕ → Returned
-plainReturns s lent = Rolled.rollReturns (verdictOf s) (listing (commandsOf s)) lent
+plainReturns s lent = rollReturns (verdictOf s) (listing (commandsOf s)) lent
 
 abbrev pub plainAfter : List ℕ → List ℕ → List ℕ
-plainAfter s lent = Rolled.after (plainReturns s (length lent)) (listing (commandsOf s)) lent
+plainAfter s lent = after (plainReturns s (length lent)) (rollBytes (rollOf (listing (commandsOf s)))) lent
 
 -- reading a sheet and writing its roll by the grid of figure g
 abbrev pub gridAnswer : List ℕ → ℕ → ℕ → Returned
 gridAnswer s g lent = gridReturns (verdictOf s) (listing (commandsOf s)) g lent
 
 abbrev pub gridAfter : List ℕ → ℕ → List ℕ → List ℕ
-gridAfter s g lent = Rolled.after (gridAnswer s g (length lent)) (listing (commandsOf s)) lent
+gridAfter s g lent = after (gridAnswer s g (length lent)) (rollBytes (rollOf (listing (commandsOf s)))) lent
 
 -- "It carries this count in its result"; 0 where the call is refused
 abbrev pub CellsEntered : Listing → ℕ → ℕ → Returned → Type 0
@@ -61,14 +62,14 @@ CellsEntered S g cells (refused n p) = cells ≡ 0
 
 -- reading a sheet and writing the ids of one cell, whose order is open
 abbrev pub cellAnswer : List ℕ → ℕ → ℕ → ℕ → List ℕ → ℕ → Returned
-cellAnswer s g column row ids lent = Listed.listReturns (Listed.andCell (verdictOf s) (Listed.cellCheck g column row)) (length ids) lent
+cellAnswer s g column row ids lent = listReturns (andThen (verdictOf s) (cellCheck g column row)) (length ids) lent
 
 pub record CellsListed (s : List ℕ) (g column row : ℕ) (before exit : List ℕ) (first second : ℕ) : Type 0 where
   pub ids : List ℕ
-  pub are : let S = listing (commandsOf s) in Listed.andCell (verdictOf s) (Listed.cellCheck g column row) ≡ accepted → CellIds (timeOf (rollOf S)) (S .tracks) (side g) (Listed.cell column row) ids
+  pub are : let S = listing (commandsOf s) in andThen (verdictOf s) (cellCheck g column row) ≡ accepted → CellIds (timeOf (rollOf S)) (S .tracks) (side g) (cell column row) ids
   pub answer : first ≡ number (cellAnswer s g column row ids (length before))
   pub number-of-ids : second ≡ other (cellAnswer s g column row ids (length before))
-  pub buffer : exit ≡ Listed.after (cellAnswer s g column row ids (length before)) ids before
+  pub buffer : exit ≡ after (cellAnswer s g column row ids (length before)) (idBytes ids) before
 
 -- a session over a sheet's bytes with so many rows shown: "the next n rows, or those left if fewer"
 abbrev pub rowsAfter : List ℕ → ℕ → ℕ → List Row
@@ -78,7 +79,7 @@ abbrev pub advanceAnswer : List ℕ → ℕ → ℕ → ℕ → Returned
 advanceAnswer s shown n lent = advanceReturns (verdictOf s) (rowsAfter s shown n) lent
 
 abbrev pub advanceAfter : List ℕ → ℕ → ℕ → List ℕ → List ℕ
-advanceAfter s shown n lent = advanceBuffer (advanceAnswer s shown n (length lent)) (rowsAfter s shown n) lent
+advanceAfter s shown n lent = after (advanceAnswer s shown n (length lent)) (rollBytes (rowsAfter s shown n)) lent
 
 -- "A session handed in with more rows shown than its roll has counts as one with all shown"; a refused call leaves the number as it came
 abbrev pub shownAfter : List ℕ → ℕ → Returned → ℕ

@@ -4,7 +4,7 @@ use mathlib.Core.Bool.{Bool, true, false}
 use mathlib.Core.List.{List, _++_, Permᴰ·symm}
 use Prim.Native.Nat.{ℕ, _*_, _≤_, _<_}
 use native.Mathlib.Omega.{arith}
-use borrow.Author.Tests.{lt-ltb, le-ltb, ltb-true, ltb-false}
+use borrow.Author.Tests.{ltb-true, ltb-false}
 use lib.Dec.{ltb}
 use lib.ListN.{length, take, drop}
 use lib.Seq.{take-append-seam}
@@ -14,11 +14,13 @@ use Rattle.sheet.specs.declared.Sheet.{Sheet}
 use Rattle.sheet.specs.Accepted.{Accepted}
 use Rattle.sheet.specs.Format.{encodeAll}
 use Rattle.sheet.specs.HandedIn.{handedIn, checkOf}
+use Rattle.sheet.specs.Lent.{after}
 use Rattle.sheet.specs.Listing.{Listing, listing}
 use Rattle.sheet.specs.Ordered.{commandsIn}
-use Rattle.sheet.specs.Returned.{Returned, accepted}
+use Rattle.sheet.specs.Returned.{Returned, accepted, gives, refused}
 use Rattle.sheet.specs.Scan.{verdictOf, commandsOf}
 use Rattle.sheet.proofs.Decoded.{accepted-bytes, accepted-fits}
+use Rattle.sheet.proofs.Lent.{said-short, said-given, kept, put}
 use Rattle.sheet.proofs.Lists.{perm-mem}
 use Rattle.sheet.proofs.Order.{Reordered, reordered, accepted-reordered}
 use Rattle.sheet.proofs.RoundTrip.{AllFit, Fit, all-fit, accepted-exactly, order-verdict, read-back, listed}
@@ -31,31 +33,33 @@ use Rattle.rule.proofs.OrderFree.{meets-order, roll-order}
 use Rattle.rule.proofs.RowBytes.{roll-bytes-length}
 use Rattle.rule.proofs.Starts.{accepted-proper}
 use Rattle.cells.specs.Grid.{Figure}
+use Rattle.cells.proofs.Figures.{figure-is}
 use Rattle.plain_run.specs.declared.Rolled.{Rolled}
-use Rattle.plain_run.specs.Rolled.{rolled, rollReturns, after, Rolls}
+use Rattle.plain_run.specs.Rolled.{rolled, needed, rollReturns, Rolls}
 use Rattle.grid_run.specs.declared.GridRolled.{GridRolled}
 use Rattle.grid_run.specs.declared.GridRolled.the-variants.{Rows, Refused}
 use Rattle.grid_run.specs.GridRolled.{gridRolled, CountIn, GridRolls}
 use Rattle.grid_run.specs.Demand.{Given, in-bytes, in-records, Outcome, too-short, written, Reports, Demand3}
-use Rattle.grid_run.proofs.Outcome.{figure-is, figured}
+use Rattle.grid_run.proofs.Outcome.{figured}
 use Rattle.grid_run.proofs.Counts.{cellsEntered, is-counted, the-count, count-few, count-same}
 
 -- ---- what a run of an accepted sheet comes to
 
-module _ (S : Listing) (acc : Accepted S) (before exit : List ℕ) (r : Returned) (answer : r ≡ rollReturns accepted S (length before)) (buffer : exit ≡ after (rollReturns accepted S (length before)) S before) where
+module _ (S : Listing) (acc : Accepted S) (before exit : List ℕ) (r : Returned) (answer : r ≡ rollReturns accepted S (length before)) (buffer : exit ≡ after (rollReturns accepted S (length before)) (rollBytes (rollOf S)) before) where
   lent-short : length before < 29 * length (S .tracks) → Outcome (rollOf S) before exit r
-  unfolding rollReturns after
   lent-short h =
       let e = roll-length S acc in
-      let t = lt-ltb (length before) (29 * length (S .tracks)) h in
-      subst (Outcome (rollOf S) before exit) (sym (answer ∙ rw (t, e) refl)) (too-short (rw e h) (rw t at buffer))
+      let t = said-short {v = accepted} (needed S) (length before) (length (S .tracks)) refl h in
+      let q : r ≡ refused 12 (29 * length (rollOf S)) = rw e (answer ∙ t) in
+      subst (Outcome (rollOf S) before exit) (sym q) (too-short (rw e h) (buffer ∙ kept (rollBytes (rollOf S)) before t))
 
   lent-long : 29 * length (S .tracks) ≤ length before → Outcome (rollOf S) before exit r
-  unfolding rollReturns after
   lent-long h =
       let e = roll-length S acc in
-      let t = le-ltb (length before) (29 * length (S .tracks)) h in
-      subst (Outcome (rollOf S) before exit) (sym (answer ∙ rw (t, e) refl)) (written (rw e h) (rw e (rw t at buffer)))
+      let t = said-given {v = accepted} (needed S) (length before) (length (S .tracks)) refl h in
+      let q : r ≡ gives (length (rollOf S)) = rw e (answer ∙ t) in
+      let x = put (rollBytes (rollOf S)) before t ∙ ap (λ (n : ℕ). rollBytes (rollOf S) ++ drop n before) (roll-bytes-length (rollOf S)) in
+      subst (Outcome (rollOf S) before exit) (sym q) (written (rw e h) (buffer ∙ x))
 
   outcome : Outcome (rollOf S) before exit r
   outcome = go (ltb (length before) (29 * length (S .tracks))) refl
@@ -104,7 +108,7 @@ module _ (l : List Command) (fit : AllFit l) (ok : verdictOf (encodeAll l) ≡ a
         let k = subst (λ (z : Returned). GridRolls z T g before exit r) (is-accepted v T i) h in
         let e = figured T g (length before) (figure-is f) in (
           subst (λ (z : List Row). Outcome z before exit (gridRolled r)) (sym (roll-order p acc))
-              (outcome T (accepted-reordered p acc) before exit (gridRolled r) (k .answer ∙ e) (k .buffer ∙ ap (λ (z : Returned). after z T before) e)),
+              (outcome T (accepted-reordered p acc) before exit (gridRolled r) (k .answer ∙ e) (k .buffer ∙ ap (λ (z : Returned). after z (rollBytes (rollOf T)) before) e)),
           reports r (k .cells),
         )
       where

@@ -1,16 +1,17 @@
 -- What a call of the grid run returns, and what its lent memory then holds (document 01, "Grid, events, cells" and "Returned on refusal").
 use mathlib.Core.Path.{_≡_}
-use mathlib.Core.Bool.{Bool, cond, _||_}
 use mathlib.Core.List.{List}
 use Prim.Native.Nat.{ℕ}
-use lib.Dec.{eqb}
 use lib.ListN.{length}
+use Rattle.sheet.specs.Lent.{andThen, after}
 use Rattle.sheet.specs.Listing.{Listing}
-use Rattle.sheet.specs.Returned.{Returned, accepted, gives, refused}
+use Rattle.sheet.specs.Returned.{Returned, gives, refused}
+use Rattle.rule.specs.RowBytes.{rollBytes}
 use Rattle.rule.specs.Rows.{timeOf}
 use Rattle.rule.specs.Selection.{rollOf}
+use Rattle.cells.specs.Grid.{figureCheck}
 use Rattle.cells.specs.Touched.{Counted}
-use Rattle.plain_run.specs.Rolled.{rollReturns, after}
+use Rattle.plain_run.specs.Rolled.{rollReturns}
 use Rattle.grid_run.specs.declared.GridRolled.{GridRolled}
 use Rattle.grid_run.specs.declared.GridRolled.the-variants.{Rows, Refused}
 
@@ -18,15 +19,9 @@ abbrev pub gridRolled : GridRolled → Returned
 gridRolled (Rows n cells) = gives n
 gridRolled (Refused n p) = refused n p
 
--- "g not one of the six": decides Figure
-unfoldable pub isFigure : ℕ → Bool
-isFigure g = eqb g 1 || (eqb g 2 || (eqb g 4 || (eqb g 8 || (eqb g 16 || eqb g 32))))
-
--- "After the sheet come 13, .. 12", and then as the plain run
-unfoldable pub gridReturns : Returned → Listing → ℕ → ℕ → Returned
-gridReturns accepted S g lent = cond (isFigure g) (rollReturns accepted S lent) (refused 13 g)
-gridReturns (gives n) S g lent = gives n
-gridReturns (refused n p) S g lent = refused n p
+-- "After the sheet come 13, .. 12": 13, and then as the plain run
+abbrev pub gridReturns : Returned → Listing → ℕ → ℕ → Returned
+gridReturns v S g lent = rollReturns (andThen v (figureCheck g)) S lent
 
 -- "It carries this count in its result": the number of cells holding a point of a trace, each trace to the exact end of its tip
 abbrev pub CountIn : Listing → ℕ → GridRolled → Type 0
@@ -38,4 +33,4 @@ pub record GridRolls (v : Returned) (S : Listing) (g : ℕ) (before exit : List 
   pub answer : gridRolled r ≡ gridReturns v S g (length before)
   pub cells : CountIn S g r
   -- "A refusal writes nothing. An accepted call writes only its own length."
-  pub buffer : exit ≡ after (gridReturns v S g (length before)) S before
+  pub buffer : exit ≡ after (gridReturns v S g (length before)) (rollBytes (rollOf S)) before

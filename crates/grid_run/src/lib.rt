@@ -1,13 +1,13 @@
 // The grid run as callers reach it: records or bytes in, the roll's rows and the count of cells out (document 01, "Grid, events, cells" and
 // "Returned on refusal"). Demand 3, that it gives the plain run's rows, is specs/Demand.antt.
-ghost use mathlib.Core.Path.{_≡_};
 ghost use Rattle.sheet.specs.Listing.{listing};
 ghost use Rattle.sheet.specs.Returned.{accepted};
 ghost use Rattle.sheet.specs.Scan.{verdictOf, commandsOf};
 ghost use Rattle.sheet.specs.HandedIn.{handedIn, checkOf};
 ghost use Rattle.lines.specs.Lines.{Handed};
-ghost use Rattle.grid_run.specs.GridRolled.{isFigure, GridRolls};
+ghost use Rattle.grid_run.specs.GridRolled.{GridRolls};
 ghost use Rattle.grid_run.specs.Exchanged.{Exchanges};
+pub use cells::is_figure;
 use plain_run::Rolled;
 use sheet::Sheet;
 use sheet::Verdict;
@@ -22,16 +22,6 @@ pub enum GridRolled {
 pub struct Exchanged {
     pub plain: Rolled,
     pub grid: GridRolled,
-}
-
-// Whether g is one of the six figures.
-pub fn is_figure(g: u64) -> bool
-    ensures { λ r. ⌜ r ≡ isFigure g ⌝ }
-{
-    match g {
-        1 | 2 | 4 | 8 | 16 | 32 => true,
-        _ => false,
-    }
 }
 
 // The rows and the count of an accepted sheet, or 13 or 12.

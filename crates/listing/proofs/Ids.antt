@@ -25,6 +25,11 @@ use Rattle.listing.specs.Picked.{Picked}
 abbrev pub Ids : List Track → Type 0
 Ids l = Pairwise (λ a b. ¬ (a .id ≡ b .id)) l
 
+pub bytes-length : (ids : List ℕ) → length (idBytes ids) ≡ 2 * length ids
+unfolding idBytes
+bytes-length [] = refl
+bytes-length (i ∷ ids) = let h = bytes-length ids in simp (length-append, le-length) (omega arith)
+
 bytes-snoc : (ids : List ℕ) (i : ℕ) → idBytes (ids ++ (i ∷ [])) ≡ idBytes ids ++ leBytes 2 i
 unfolding idBytes
 bytes-snoc [] i = append-nil (leBytes 2 i)

@@ -1,4 +1,3 @@
-pub mod SmallTimes
 pub mod Ends
 pub mod Ids
 pub mod Figures

@@ -1,8 +1,8 @@
 -- Records handed in that the check accepts are ready for the run (`handed-ready`), and so are records that were read (`read-ready`).
 use mathlib.Core.Path.{_≡_, sym, ap, _∙_, subst}
 use mathlib.Core.Logic.{_⊎_, inl, inr}
-use mathlib.Core.List.{List, [], _∷_, _++_, map, List·Memᴰ·head, List·Memᴰ·tail, List·Memᴰ·cases-cons, List·Memᴰ·not-nil, List·Memᴰ·append-cases}
-use Prim.Native.Nat.{ℕ, zero, suc, _+_, _-_, _≤_}
+use mathlib.Core.List.{List, [], _∷_, _++_, map, List·Memᴰ·cases-cons, List·Memᴰ·not-nil, List·Memᴰ·append-cases}
+use Prim.Native.Nat.{ℕ, _+_, _-_, _≤_}
 use native.Mathlib.Omega.{arith}
 use borrow.Author.Needs.{sfits-of}
 use lib.Dec.{lit<}
@@ -10,7 +10,9 @@ use lib.ListN.{length, take, replicate, length-append, length-replicate, length-
 use mir.Val.{Val}
 use base.Fml.{Fml}
 use denote.Array.{each}
+use denote.Laws.{Is}
 use denote.Shadow.{shadow}
+use denote.Struct.Declared.{row}
 use Rattle.layout.specs.Bytes.{AllBytes}
 use Rattle.sheet.specs.declared.Sheet.{Sheet}
 use Rattle.sheet.specs.declared.Track.{Track}
@@ -21,12 +23,14 @@ use Rattle.sheet.specs.HandedIn.{noTrack, noWall, handedIn, checkOf, filled, sh
 use Rattle.sheet.specs.Listing.{_∈_, listing}
 use Rattle.sheet.specs.Returned.{Returned, accepted}
 use Rattle.sheet.specs.Scan.{verdictOf, commandsOf}
+use Rattle.sheet.proofs.Sheet.{the-type}
+use Rattle.sheet.proofs.Lists.{take-in, sized}
 use Rattle.sheet.proofs.RoundTrip.{all-fit, accepted-exactly, accepted-records, listed, handed-back}
 use Rattle.reader.specs.Reading.{ifAccepted, recordsOf}
 use Rattle.lines.specs.Lines.{Handed}
 
 -- what the type of an array's elements says of each
-pub each-in : {A D : Type 0} (f : A → D) (own : D → List Val → Fml) (P : A → Type 0) → ((a : A) (u : Val) → shadow (own (f a) (u ∷ [])) → P a) → (l : List A) (us : List Val) → shadow (each D own (map f l) us) → (a : A) → a ∈ l → P a
+each-in : {A D : Type 0} (f : A → D) (own : D → List Val → Fml) (P : A → Type 0) → ((a : A) (u : Val) → shadow (own (f a) (u ∷ [])) → P a) → (l : List A) (us : List Val) → shadow (each D own (map f l) us) → (a : A) → a ∈ l → P a
 each-in f own P h [] us s a m = absurd (List·Memᴰ·not-nil m)
 each-in f own P h (x ∷ l) [] s a m = absurd s
 each-in f own P h (x ∷ l) (u ∷ us) s a m = go (List·Memᴰ·cases-cons m) (each-in f own P h l us (s .1) a)
@@ -36,15 +40,6 @@ each-in f own P h (x ∷ l) (u ∷ us) s a m = go (List·Memᴰ·cases-cons m) (
     go (inr n) rec = rec n
 
 -- ---- records handed in
-
-take-in : {A : Type 0} (n : ℕ) (l : List A) (a : A) → a ∈ take n l → a ∈ l
-take-in zero l a m = absurd (List·Memᴰ·not-nil m)
-take-in (suc n) [] a m = absurd (List·Memᴰ·not-nil m)
-take-in (suc n) (x ∷ l) a m = go (List·Memᴰ·cases-cons m) (take-in n l a)
-  where
-    go : (a ≡ x) ⊎ (a ∈ take n l) → (a ∈ take n l → a ∈ l) → a ∈ (x ∷ l)
-    go (inl e) rec = List·Memᴰ·head e
-    go (inr k) rec = List·Memᴰ·tail (rec k)
 
 -- among those claimed is at most one blank
 claimed : {A : Type 0} (P : A → Type 0) (l : List A) (d : A) (n : ℕ) → ((a : A) → a ∈ l → P a) → P d → (a : A) → a ∈ take n (l ++ (d ∷ [])) → P a
@@ -68,8 +63,8 @@ no-wall-fits = record { id = record { fits = lit< tt }; ax = record { fits = lit
 few : {A : Type 0} (l : List A) (d : A) (n : ℕ) → length l ≡ 256 → length (take n (l ++ (d ∷ []))) ≤ 256 → n ≤ 256
 few l d n e h = omega (arith, length-append l (d ∷ []), length-take n (l ++ (d ∷ [])))
 
-pub handed-ready : {s : Sheet} → length (s .tracks) ≡ 256 → length (s .walls) ≡ 256 → ((a : Track) → a ∈ s .tracks → TrackFits a) → ((w : Wall) → w ∈ s .walls → WallFits w) → checkOf s ≡ accepted → Handed s
-handed-ready {s} t w f g ok =
+ready : {s : Sheet} → length (s .tracks) ≡ 256 → length (s .walls) ≡ 256 → ((a : Track) → a ∈ s .tracks → TrackFits a) → ((w : Wall) → w ∈ s .walls → WallFits w) → checkOf s ≡ accepted → Handed s
+ready {s} t w f g ok =
     let S = handedIn s in
     let h = all-fit S (record { tracks = claimed TrackFits (s .tracks) noTrack (s .ntracks) f no-track-fits; walls = claimed WallFits (s .walls) noWall (s .nwalls) g no-wall-fits }) in
     let acc : Accepted S = subst Accepted (listed S) (accepted-exactly h .0 ok) in
@@ -80,6 +75,23 @@ handed-ready {s} t w f g ok =
       tracks-in = few (s .tracks) noTrack (s .ntracks) t (acc .few-tracks);
       walls-in = few (s .walls) noWall (s .nwalls) w (acc .few-walls);
     }
+
+-- as their type says: 256 places for each kind, and each field within its width
+module _ (s : Sheet) {vs : List Val} (typed : Is (row the-type) s vs) where
+  pub places : (length (s .tracks) ≡ 256) × (length (s .walls) ≡ 256)
+  places = (sized _ (s .tracks) (typed .1 .1 .0 .1 .0 .1), sized _ (s .walls) (typed .1 .1 .1 .1 .0 .1 .0 .1))
+
+  pub handed-ready : checkOf s ≡ accepted → Handed s
+  handed-ready =
+      let t = typed .1 .1 .0 in
+      let w = typed .1 .1 .1 .1 .0 in
+      ready (places .0) (places .1)
+      (each-in _ _ TrackFits
+      (λ a u z. record { id = record { fits = z .1 .1 .0 .1 }; x = record { fits = z .1 .1 .1 .0 .1 }; y = record { fits = z .1 .1 .1 .1 .0 .1 }; vx = sfits-of (z .1 .1 .1 .1 .1 .0 .1); vy = sfits-of (z .1 .1 .1 .1 .1 .1 .0 .1) })
+      (s .tracks) (t .0) (t .1 .1))
+      (each-in _ _ WallFits
+      (λ a u z. record { id = record { fits = z .1 .1 .0 .1 }; ax = record { fits = z .1 .1 .1 .0 .1 }; ay = record { fits = z .1 .1 .1 .1 .0 .1 }; bx = record { fits = z .1 .1 .1 .1 .1 .0 .1 }; by = record { fits = z .1 .1 .1 .1 .1 .1 .0 .1 } })
+      (s .walls) (w .0) (w .1 .1))
 
 -- ---- records that were read
 

@@ -1,22 +1,23 @@
 -- What the plain run writes is the roll of the one set of endings that meets the rule: `the-roll`, and `sheet-roll` for a sheet's bytes.
-use mathlib.Core.Path.{_≡_}
+use mathlib.Core.Path.{_≡_, refl, ap, _∙_}
 use mathlib.Core.List.{List, _++_}
 use Prim.Native.Nat.{ℕ, _*_, _≤_}
 use lib.ListN.{length, drop}
-use borrow.Author.Tests.{le-ltb}
 use Rattle.layout.specs.Bytes.{AllBytes}
 use Rattle.sheet.specs.Accepted.{Accepted}
 use Rattle.sheet.specs.Listing.{Listing, listing}
 use Rattle.sheet.specs.Returned.{accepted}
 use Rattle.sheet.specs.Scan.{verdictOf, commandsOf}
+use Rattle.sheet.proofs.Lent.{said-given, put}
 use Rattle.sheet.proofs.RoundTrip.{accepted-records}
 use Rattle.rule.specs.declared.Row.{Row}
 use Rattle.rule.specs.Roll.{RollOf}
 use Rattle.rule.specs.RowBytes.{rollBytes}
 use Rattle.rule.specs.Selection.{rollOf}
-use Rattle.rule.proofs.Existence.{roll-of, roll-is}
+use Rattle.rule.proofs.Existence.{roll-of, roll-is, roll-length}
+use Rattle.rule.proofs.RowBytes.{roll-bytes-length}
 use Rattle.plain_run.specs.declared.Rolled.{Rolled}
-use Rattle.plain_run.specs.Rolled.{needed, rollReturns, after, Rolls}
+use Rattle.plain_run.specs.Rolled.{needed, Rolls}
 
 -- `rows` is a roll of S, there is no other, and its bytes stand in front of the buffer's rest
 pub record TheRoll (S : Listing) (before exit : List ℕ) : Type 0 where
@@ -26,13 +27,14 @@ pub record TheRoll (S : Listing) (before exit : List ℕ) : Type 0 where
   pub written : exit ≡ rollBytes rows ++ drop (29 * length (S .tracks)) before
 
 pub the-roll : (S : Listing) (before exit : List ℕ) (r : Rolled) → Accepted S → Rolls accepted S before exit r → needed S ≤ length before → TheRoll S before exit
-unfolding rollReturns after
 the-roll S before exit r acc h room =
     record {
       rows = rollOf S;
       is-roll = roll-of S acc;
       no-other = roll-is S acc;
-      written = rw (le-ltb (length before) (needed S) room) at (h .buffer);
+      written =
+          let n = roll-bytes-length (rollOf S) ∙ ap (λ (k : ℕ). 29 * k) (roll-length S acc) in
+          h .buffer ∙ put (rollBytes (rollOf S)) before (said-given {v = accepted} (needed S) (length before) (length (S .tracks)) refl room) ∙ ap (λ (k : ℕ). rollBytes (rollOf S) ++ drop k before) n;
     }
 
 pub sheet-roll : (s before exit : List ℕ) (r : Rolled) → AllBytes s → verdictOf s ≡ accepted → Rolls (verdictOf s) (listing (commandsOf s)) before exit r → needed (listing (commandsOf s)) ≤ length before → TheRoll (listing (commandsOf s)) before exit

@@ -1,1 +1,3 @@
 pub mod FirstBytes
+pub mod Putting
+pub mod Answered

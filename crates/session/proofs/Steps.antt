@@ -2,12 +2,10 @@
 -- front of the one roll, in order, as many rows as the steps named or those left), and `same-place` and `refreshed` (the same rows at
 -- the same places for every order of the sheet's commands). `within` and `kept` speak of any session.
 use mathlib.Core.Path.{_≡_, refl, sym, ap, ap₂, _∙_, subst}
-use mathlib.Core.Bool.{Bool, true, false}
 use mathlib.Core.List.{List, [], _++_, List·Permᴰ}
 use Prim.Native.Nat.{ℕ, _+_, _-_, _*_, _≤_, min}
 use native.Mathlib.Nat.{zero-min}
 use native.Mathlib.Omega.{arith}
-use lib.Dec.{ltb}
 use lib.ListN.{length, take, drop, length-take, length-drop}
 use lib.Seq.{take-at, take-add}
 use Rattle.layout.specs.Bytes.{AllBytes}
@@ -18,6 +16,8 @@ use Rattle.sheet.specs.Listing.{Listing, listing}
 use Rattle.sheet.specs.Returned.{Returned, accepted, gives, refused, verdict}
 use Rattle.sheet.specs.Scan.{verdictOf, commandsOf}
 use Rattle.sheet.specs.HandedIn.{handedIn, listedForm, checkOf, sheetOf}
+use Rattle.sheet.proofs.Decided.{decided}
+use Rattle.sheet.proofs.Lent as ending
 use Rattle.sheet.proofs.Order.{reordered}
 use Rattle.sheet.proofs.RoundTrip.{AllFit, accepted-exactly, order-verdict, handed-back, written-read}
 use Rattle.reader.specs.Reading.{ifAccepted, recordsOf}
@@ -31,21 +31,10 @@ use Rattle.plain_run.specs.Rolled.{rolled}
 use Rattle.session.specs.declared.Session.{Session}
 use Rattle.session.specs.declared.Begun.{Begun}
 use Rattle.session.specs.declared.Advanced.{Advanced}
-use Rattle.session.specs.Stepping.{rollIn, rowsLeft, nextRows, shownIn, begun, restart, Begins, advanceReturns, advanceSession, advanceBuffer, Advances}
+use Rattle.session.specs.Stepping.{rollIn, rowsLeft, nextRows, shownIn, begun, restart, Begins, advanceSession, Advances}
 use Rattle.session.proofs.Parts.{take-min, drop-min}
-use Rattle.plain_run.proofs.Verdicts.{Decided, decided}
 
 -- ---- one call on any session
-
-went-on : (v : Returned) (rows : List Row) (lent : ℕ) {k : ℕ} → Decided v → advanceReturns v rows lent ≡ gives k → (v ≡ accepted) × (k ≡ length rows)
-unfolding advanceReturns
-went-on accepted rows lent {k} h e = go (ltb lent (29 * length rows)) refl
-  where
-    go : (b : Bool) → ltb lent (29 * length rows) ≡ b → (accepted ≡ accepted) × (k ≡ length rows)
-    go true t = absurd (let z : _≡_ {A = ℕ} 0 1 = cc (rw t at e) in omega arith)
-    go false t = let g : gives (length rows) ≡ gives k = rw t at e in (refl, cc)
-went-on (gives n) rows lent h e = absurd h
-went-on (refused n p) rows lent h e = absurd (let z : _≡_ {A = ℕ} 0 1 = cc in omega arith)
 
 -- an advance that gave k
 pub record Went (s : Session) (n : ℕ) (exit : List ℕ) (after : Session) (k : ℕ) : Type 0 where
@@ -56,16 +45,16 @@ pub record Went (s : Session) (n : ℕ) (exit : List ℕ) (after : Session) (k :
 
 module _ {s : Session} {n : ℕ} {before exit : List ℕ} {r : Advanced} (h : Advances s n before exit r) where
   pub went : {k : ℕ} → rolled (r .answer) ≡ gives k → Went s n exit (r .session) k
-  unfolding advanceSession advanceBuffer
+  unfolding advanceSession
   went {k} e =
       let rows = nextRows s n in
       let g = sym (h .answer) ∙ e in
-      let (ok, c) = went-on (checkOf (s .sheet)) rows (length before) (decided (listedForm (s .sheet))) g in
+      let told = ending.gave (29 * length rows) (length before) (length rows) (decided (listedForm (s .sheet))) (sym g) in
       record {
-        ok = ok;
-        count = c;
+        ok = told .accepts;
+        count = told .count;
         session = rw g at (h .session);
-        bytes = ap (take (29 * k)) (rw g at (h .buffer)) ∙ take-at (rollBytes rows) _ (29 * k) (roll-bytes-length rows ∙ ap (λ (j : ℕ). 29 * j) (sym c));
+        bytes = ap (take (29 * k)) (h .buffer ∙ ending.put (rollBytes rows) before g) ∙ take-at (rollBytes rows) _ (29 * k) (roll-bytes-length rows ∙ ap (λ (j : ℕ). 29 * j) (sym (told .count)));
       }
 
   -- an accepted call hands back a session whose count is within its roll
@@ -78,8 +67,8 @@ module _ {s : Session} {n : ℕ} {before exit : List ℕ} {r : Advanced} (h : Ad
 
   -- a refused call hands back the very session and changes no byte
   pub kept : {m p : ℕ} → rolled (r .answer) ≡ refused m p → (r .session ≡ s) × (exit ≡ before)
-  unfolding advanceSession advanceBuffer
-  kept e = let g = sym (h .answer) ∙ e in (rw g at (h .session), rw g at (h .buffer))
+  unfolding advanceSession
+  kept e = let g = sym (h .answer) ∙ e in (rw g at (h .session), h .buffer ∙ ending.kept (rollBytes (nextRows s n)) before g)
 
 -- ---- sequences of calls
 

@@ -1,11 +1,10 @@
 -- What the calls on a stepping session give and hand back (document 01, "Session and names" and "Returned on refusal").
 use mathlib.Core.Path.{_≡_}
-use mathlib.Core.Bool.{cond}
-use mathlib.Core.List.{List, _++_}
+use mathlib.Core.List.{List}
 use Prim.Native.Nat.{ℕ, _+_, _*_, min}
-use lib.Dec.{ltb}
 use lib.ListN.{length, take, drop}
 use Rattle.sheet.specs.declared.Sheet.{Sheet}
+use Rattle.sheet.specs.Lent.{andThen, orShort, after}
 use Rattle.sheet.specs.Returned.{Returned, accepted, gives, refused, verdict}
 use Rattle.sheet.specs.HandedIn.{handedIn, checkOf}
 use Rattle.rule.specs.declared.Row.{Row}
@@ -51,11 +50,9 @@ pub record Begins (v : Returned) (s : Session) (r : Begun) : Type 0 where
 
 -- ---- advance
 
--- "Advance by n .. gives how many"; "After the sheet come .. 12", with the length that this call needs
-unfoldable pub advanceReturns : Returned → List Row → ℕ → Returned
-advanceReturns accepted rows lent = cond (ltb lent (29 * length rows)) (refused 12 (29 * length rows)) (gives (length rows))
-advanceReturns (gives n) rows lent = gives n
-advanceReturns (refused n p) rows lent = refused n p
+-- "Advance by n .. gives how many", or 12 with the length that this call needs
+abbrev pub advanceReturns : Returned → List Row → ℕ → Returned
+advanceReturns v rows lent = andThen v (orShort (29 * length rows) lent (length rows))
 
 -- past the rows that were written; a refused call hands back the very session
 unfoldable pub advanceSession : Returned → Session → Session
@@ -63,24 +60,16 @@ advanceSession accepted s = s
 advanceSession (gives k) s = record { sheet = s .sheet; shown = shownIn s + k }
 advanceSession (refused n p) s = s
 
--- "A refusal writes nothing. An accepted call writes only its own length."
-unfoldable pub advanceBuffer : Returned → List Row → List ℕ → List ℕ
-advanceBuffer accepted rows lent = lent
-advanceBuffer (gives k) rows lent = rollBytes rows ++ drop (29 * length rows) lent
-advanceBuffer (refused n p) rows lent = lent
-
 abbrev pub advanceOf : Session → ℕ → ℕ → Returned
 advanceOf s n lent = advanceReturns (checkOf (s .sheet)) (nextRows s n) lent
 
 pub record Advances (s : Session) (n : ℕ) (before exit : List ℕ) (r : Advanced) : Type 0 where
   pub answer : rolled (r .answer) ≡ advanceOf s n (length before)
   pub session : r .session ≡ advanceSession (advanceOf s n (length before)) s
-  pub buffer : exit ≡ advanceBuffer (advanceOf s n (length before)) (nextRows s n) before
+  pub buffer : exit ≡ after (advanceOf s n (length before)) (rollBytes (nextRows s n)) before
 
 -- ---- the number still running
 
 -- "the number of tracks still running (rows not yet shown), counted each time"
-unfoldable pub runningOf : Returned → Session → Returned
-runningOf accepted s = gives (length (rowsLeft s))
-runningOf (gives n) s = gives n
-runningOf (refused n p) s = refused n p
+abbrev pub runningOf : Returned → Session → Returned
+runningOf v s = andThen v (gives (length (rowsLeft s)))

@@ -1,16 +1,18 @@
 -- A line copied to the lent buffer. Main theorems: `short` and `copied`, what the call returns and leaves where the buffer is too short and where it is not; `prints`, the same for the text that a line is known to hold.
-use mathlib.Core.Path.{_≡_, subst, _∙_}
+use mathlib.Core.Path.{_≡_, refl, sym, ap, subst, _∙_}
 use mathlib.Core.List.{List, _++_, append-assoc}
 use Prim.Native.Nat.{ℕ, suc, _+_, _≤_, _<_}
 use native.Mathlib.Numerals.{add-one}
 use native.Mathlib.Omega.{arith}
-use borrow.Author.Tests.{lt-ltb, le-ltb}
 use lib.ListN.{length, take, drop, getD, set}
 use lib.Seq.{length-take-le, drop-cons, take-suc, set-at}
+use Rattle.sheet.specs.Lent.{andThen}
+use Rattle.sheet.specs.Returned.{accepted}
+use Rattle.sheet.proofs.Lent as ending
 use Rattle.text.specs.declared.Draft.{Draft}
 use Rattle.text.specs.declared.Text.{Text}
 use Rattle.text.specs.declared.Text.the-variants.{Length, Refused}
-use Rattle.text.specs.Printed.{textReturns, after, Prints}
+use Rattle.text.specs.Printed.{Prints}
 use Rattle.text.specs.Held.{textIn, Holds}
 
 -- one byte more is copied
@@ -21,16 +23,14 @@ copy-more bytes before i h k =
 
 module _ (text before : List ℕ) {n : ℕ} (e : length text ≡ n) where
   pub short : length before < n → Prints text before before (Refused 12 n)
-  unfolding textReturns after
-  short h =
-      let t = lt-ltb (length before) n h in
-      record { answer = simp (e, t); buffer = simp (e, t) }
+  unfolding andThen
+  short h = let (a, b) = ending.too-short {v = accepted} text before (length text) refl e h in record { answer = a; buffer = b }
 
   pub copied : {exit : List ℕ} → n ≤ length before → exit ≡ text ++ drop n before → Prints text before exit (Length n)
-  unfolding textReturns after
+  unfolding andThen
   copied h k =
-      let t = le-ltb (length before) n h in
-      record { answer = simp (e, t); buffer = k ∙ simp (e, t) }
+      let (a, b) = ending.stored {v = accepted} text before (length text) refl e (omega arith) (k ∙ ap (λ (m : ℕ). text ++ drop m before) (sym e)) in
+      record { answer = a; buffer = b }
 
 pub prints : {text before exit : List ℕ} {line : Draft} {r : Text} → Holds text line → Prints (textIn line) before exit r → Prints text before exit r
 prints {text} {before} {exit} {line} {r} h p = subst (λ (t : List ℕ). Prints t before exit r) (h .is) p

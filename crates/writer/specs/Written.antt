@@ -1,11 +1,10 @@
 -- What a call of the writer returns, and what its lent memory then holds (document 01, "The sheet" and "Returned on refusal").
-use mathlib.Core.Bool.{cond}
-use mathlib.Core.List.{List, _++_}
+use mathlib.Core.List.{List}
 use Prim.Native.Nat.{ℕ}
-use lib.Dec.{ltb}
-use lib.ListN.{length, drop}
+use lib.ListN.{length}
 use Rattle.sheet.specs.declared.Sheet.{Sheet}
-use Rattle.sheet.specs.Returned.{Returned, accepted, gives, refused}
+use Rattle.sheet.specs.Lent.{andThen, orShort, after}
+use Rattle.sheet.specs.Returned.{Returned, gives, refused}
 use Rattle.sheet.specs.Ordered.{orderedForm}
 use Rattle.sheet.specs.HandedIn.{handedIn, checkOf}
 use Rattle.writer.specs.declared.Written.{Written}
@@ -19,20 +18,9 @@ written (Refused n p) = refused n p
 abbrev pub formOf : Sheet → List ℕ
 formOf sheet = orderedForm (handedIn sheet)
 
--- 12, "length needed", after the sheet's own refusals
-unfoldable pub orShort : Returned → ℕ → ℕ → Returned
-orShort accepted needed lent = cond (ltb lent needed) (refused 12 needed) (gives needed)
-orShort (gives n) needed lent = gives n
-orShort (refused n p) needed lent = refused n p
-
+-- 12 after the sheet's own refusals; else the length written
 abbrev pub writeOf : Sheet → ℕ → Returned
-writeOf sheet lent = orShort (checkOf sheet) (length (formOf sheet)) lent
-
--- "A refusal writes nothing. An accepted call writes only its own length."
-unfoldable pub after : Returned → List ℕ → List ℕ → List ℕ
-after accepted form lent = lent
-after (gives n) form lent = form ++ drop (length form) lent
-after (refused n p) form lent = lent
+writeOf sheet lent = andThen (checkOf sheet) (orShort (length (formOf sheet)) lent (length (formOf sheet)))
 
 abbrev pub bufferAfter : Sheet → List ℕ → List ℕ
 bufferAfter sheet lent = after (writeOf sheet (length lent)) (formOf sheet) lent

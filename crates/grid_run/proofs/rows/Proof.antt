@@ -3,8 +3,9 @@ use mathlib.Core.Path.{refl, sym, _∙_}
 use borrow.Author.Needs.{needs}
 use borrow.Author.Tests.{not-true, not-false}
 use Rattle.sheet.specs.HandedIn.{handedIn}
+use Rattle.cells.proofs.Figures.{is-figure}
 use Rattle.plain_run.proofs.Outcome.{too-short, all-rows}
-use Rattle.grid_run.proofs.Outcome.{is-figure, no-figure, as-plain}
+use Rattle.grid_run.proofs.Outcome.{no-figure, as-plain}
 use Rattle.grid_run.proofs.rows.Statement.{statement}
 use Rattle.grid_run.proofs.rows.Tie as tie
 
@@ -26,7 +27,7 @@ returns-2 c =
     as-plain (handedIn (a .sheet)) (a .g) (a .out .now) f refl tt (too-short (c .before .before .before .before .pre) (a .out .now) (c .if2 .taken))
 
 roll-requires : tie.Need-roll-requires
-roll-requires c κs = (c .before .before .before .before .before .pre, is-figure (sym (c .before .before .before .is-figure .ensures) ∙ not-false _ (c .before .before .if1 .left)), c .before .if2 .left)
+roll-requires c κs = (c .before .before .before .before .before .pre, is-figure _ (sym (c .before .before .before .is-figure .ensures) ∙ not-false _ (c .before .before .if1 .left)), c .before .if2 .left)
 
 same-length : tie.Need-same-length
 same-length c = search needs

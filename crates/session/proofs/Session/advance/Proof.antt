@@ -6,11 +6,12 @@ use mathlib.Core.Path.{_≡_, refl, sym, _∙_}
 use mathlib.Core.List.{List}
 use lib.ListN.{length, replicate, length-replicate}
 use Rattle.sheet.specs.HandedIn.{handedIn, checkOf}
-use Rattle.sheet.proofs.Lists.{sized}
 use Rattle.session.specs.declared.Session.{Session}
 use Rattle.session.specs.Stepping.{rollIn}
+use Rattle.plain_run.proofs.Outcome.{tracks-count}
+use Rattle.plain_run.proofs.Prepared.{places, handed-ready}
 use Rattle.plain_run.proofs.Verdicts.{Whole, handed-rows, handed-refused}
-use Rattle.session.proofs.Outcome.{all-rows, sheet-refused, too-short, shows}
+use Rattle.session.proofs.Outcome.{every-row, sheet-refused, too-short, shows}
 use Rattle.session.proofs.Session.advance.Statement.{statement}
 use Rattle.session.proofs.Session.advance.Tie as tie
 
@@ -50,7 +51,11 @@ whole : (c : tie.After-known-told) → Whole (checkOf (self c .sheet)) (handedIn
 whole c = handed-rows (self c .sheet) (c .before .before .before .before .plain-roll .ensures) (c .before .rolled .given .1)
 
 every : (c : tie.After-known-told) → length (rollIn (self c)) ≡ c .before .rolled .given .0 .0
-every c = all-rows (self c) (whole c) (c .before .before .before .roll2 .given ∙ sym clear-long)
+every c =
+    let o = c .before .before .before .before .before .before .before .before in
+    let w = whole c in
+    let h = handed-ready (self c .sheet) (o .good .0 .1 .1 .0) (w .accepts) in
+    every-row (self c) h ∙ sym (w .count ∙ tracks-count h)
 
 in-bytes : (c : tie.After-known-told) → 29 * c .before .rolled .given .0 .0 ≤ 7424
 in-bytes c = let w = whole c in omega (arith, w .room, w .count, clear-long)
@@ -85,8 +90,7 @@ add-shown c = search needs
 returns-2 : tie.Need-returns-2
 returns-2 c =
     let s = c .before .before .before .before .before .before .before in
-    let t = sized _ (s .args .self .sheet .tracks) (s .good .0 .1 .1 .0 .1 .1 .0 .1 .0 .1) in
-    let w = sized _ (s .args .self .sheet .walls) (s .good .0 .1 .1 .0 .1 .1 .1 .1 .0 .1 .0 .1) in
+    let (t, w) = places (s .args .self .sheet) (s .good .0 .1 .1 .0) in
     let e = c .enum-told .given .1 in
     sheet-refused (s .args .self) (s .args .n) (s .args .out .now) (handed-refused (s .args .self .sheet) (c .before .before .before .plain-roll .ensures) t w (omega (arith, clear-long)) e) e
 

@@ -2,11 +2,11 @@
 use borrow.Author.Needs.{needs}
 use mathlib.Core.Path.{sym}
 use lib.Seq.{length-take-le}
-use Rattle.roll.proofs.print.Statement.{statement}
-use Rattle.roll.proofs.print.Tie as tie
+use Rattle.bulletin.proofs.print.Statement.{statement}
+use Rattle.bulletin.proofs.print.Tie as tie
 
-enum-known-t : tie.Need-enum-known-t
-enum-known-t c = search needs
+enum-known-text : tie.Need-enum-known-text
+enum-known-text c = search needs
 
 slice-aggregate-write-all : tie.Need-slice-aggregate-write-all
 slice-aggregate-write-all c = sym (length-take-le _ _ (search needs))
@@ -30,7 +30,7 @@ pub print-spec : {M : Type 1} → statement M
 print-spec =
     tie.close
     (tie.spec
-    enum-known-t
+    enum-known-text
     slice-aggregate-write-all
     write-all-requires
     enum-told

@@ -1,8 +1,8 @@
 -- The loop passes each of the n rows once.
 use borrow.Author.Needs.{needs}
 use Prim.Native.Nat.{_-_}
-use Rattle.roll.proofs.print_rows.Statement.{statement}
-use Rattle.roll.proofs.print_rows.Tie as tie
+use Rattle.bulletin.proofs.print_rows.Statement.{statement}
+use Rattle.bulletin.proofs.print_rows.Tie as tie
 
 abbrev Inv-loop : tie.InvT-loop
 Inv-loop rows n k₀ k = Unit {0}
@@ -13,17 +13,8 @@ abbrev μ-loop : tie.MeasureT-loop
 loop-holds : tie.Need-loop-holds Inv-loop μ-loop
 loop-holds c = search needs
 
-row-at-requires : tie.Need-row-at-requires Inv-loop μ-loop
-row-at-requires c κs = search needs
-
-enum-known-stored : tie.Need-enum-known-stored Inv-loop μ-loop
-enum-known-stored c = search needs
-
 print-row-requires : tie.Need-print-row-requires Inv-loop μ-loop
 print-row-requires c κs = search needs
-
-enum-told : tie.Need-enum-told Inv-loop μ-loop
-enum-told c = search needs
 
 add-k : tie.Need-add-k Inv-loop μ-loop
 add-k c = search needs
@@ -40,15 +31,4 @@ returns c = search needs
 pub print-rows-spec : {M : Type 1} → statement M
 print-rows-spec =
     tie.close
-    (tie.spec
-    Inv-loop
-    μ-loop
-    loop-holds
-    row-at-requires
-    enum-known-stored
-    print-row-requires
-    enum-told
-    add-k
-    loop-less
-    loop-again
-    returns)
+    (tie.spec Inv-loop μ-loop loop-holds print-row-requires add-k loop-less loop-again returns)

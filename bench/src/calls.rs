@@ -1,0 +1,110 @@
+//! The calls of the proved library, and what the outside implementation does for each: both from a sheet's bytes to the answer's.
+
+use crate::sheets::Timed;
+use crate::timing::least;
+use fissures::{Session, LONGEST_ROLL};
+use reference::cells::{count, FIGURES};
+use reference::roll::{roll, roll_bytes, Row};
+use reference::sheet::{self, read};
+use std::hint::black_box;
+
+#[derive(Clone, Copy)]
+pub enum Call {
+    /// The verdict.
+    Read,
+    /// The ordered form: the sheet read, its records checked as those handed in are, and written.
+    Order,
+    Plain,
+    /// The grid run of a figure.
+    Grid(u64),
+    /// A session with half of its rows shown advances by one.
+    Step,
+}
+
+impl Call {
+    /// Those by which a sheet is worked out.
+    pub fn all() -> Vec<Call> {
+        [&[Call::Read, Call::Plain][..], &FIGURES.map(Call::Grid), &[Call::Step]].concat()
+    }
+
+    pub fn name(self) -> String {
+        match self {
+            Call::Read => "reading".into(),
+            Call::Order => "reading, checking and writing".into(),
+            Call::Plain => "plain run".into(),
+            Call::Grid(figure) => format!("grid run, g = {figure}"),
+            Call::Step => "session step".into(),
+        }
+    }
+
+    /// Writes the proved answer's bytes and gives its number.
+    fn proved(self, timed: &Timed, out: &mut [u8]) -> usize {
+        let sheet = &timed.bytes;
+        let answer = match self {
+            Call::Read => fissures::check(sheet).map(|()| 0),
+            Call::Order => fissures::order(sheet, out),
+            Call::Plain => fissures::plain(sheet, out),
+            Call::Grid(figure) => fissures::grid(sheet, figure, out).map(|roll| roll.cells as usize),
+            Call::Step => Session { sheet, shown: timed.half() as u64 }.advance(1, out),
+        };
+        answer.expect("an accepted sheet")
+    }
+
+    /// The same by the outside implementation.
+    fn outside(self, timed: &Timed, out: &mut [u8]) -> usize {
+        let records = black_box(read(&timed.bytes).expect("an accepted sheet"));
+        match self {
+            Call::Read => 0,
+            Call::Order => {
+                sheet::check(&records.tracks, &records.walls).expect("accepted records");
+                sheet::write(&records.tracks, &records.walls, out).expect("room for any sheet")
+            }
+            Call::Plain => put(&roll(&records), out),
+            Call::Grid(figure) => {
+                let rows = roll(&records);
+                put(&rows, out);
+                count(&records, &rows, figure)
+            }
+            Call::Step => put(&roll(&records)[timed.half()..][..1], out),
+        }
+    }
+
+    fn check(self, timed: &Timed) {
+        let (mut ours, mut theirs) = ([0; LONGEST_ROLL], [0; LONGEST_ROLL]);
+        let numbers = (self.proved(timed, &mut ours), self.outside(timed, &mut theirs));
+        assert!(numbers.0 == numbers.1 && ours == theirs, "{}, {}: answers differ", timed.name(), self.name());
+    }
+}
+
+fn put(rows: &[Row], out: &mut [u8]) -> usize {
+    let bytes = roll_bytes(rows);
+    out[..bytes.len()].copy_from_slice(&bytes);
+    rows.len()
+}
+
+/// Microseconds of a call on both sides.
+#[derive(Clone, Copy)]
+pub struct Pair {
+    pub proved: f64,
+    pub outside: f64,
+}
+
+impl Pair {
+    pub fn ratio(&self) -> f64 {
+        self.proved / self.outside
+    }
+}
+
+/// The times of each call, which all take turns. Both sides give the same answers.
+pub fn compare(calls: &[Call], timed: &Timed) -> Vec<Pair> {
+    calls.iter().for_each(|call| call.check(timed));
+    let mut out = [0; LONGEST_ROLL];
+    let times = least(2 * calls.len(), |number| {
+        let (call, timed) = (calls[number / 2], black_box(timed));
+        black_box(match number % 2 {
+            0 => call.proved(timed, &mut out),
+            _ => call.outside(timed, &mut out),
+        });
+    });
+    times.chunks(2).map(|pair| Pair { proved: pair[0], outside: pair[1] }).collect()
+}

@@ -1,0 +1,27 @@
+-- What the bulletin shows of a sheet's bytes: the front of its one roll, or its refusal.
+use mathlib.Core.Path.{_≡_}
+use mathlib.Core.List.{List}
+use Prim.Native.Nat.{ℕ}
+use lib.ListN.{length, take}
+use Rattle.sheet.specs.Lent.{after}
+use Rattle.sheet.specs.Listing.{listing}
+use Rattle.sheet.specs.Returned.{Returned}
+use Rattle.sheet.specs.Scan.{verdictOf, commandsOf}
+use Rattle.rule.specs.declared.Row.{Row}
+use Rattle.rule.specs.RowBytes.{rollBytes}
+use Rattle.rule.specs.Selection.{rollOf}
+use Rattle.plain_run.specs.Rolled.{rolled}
+use Rattle.session.specs.declared.Advanced.{Advanced}
+use Rattle.session.specs.Stepping.{advanceReturns}
+
+-- "the next n rows, or those left if fewer", with none shown yet
+abbrev pub firstRows : List ℕ → ℕ → List Row
+firstRows s n = take n (rollOf (listing (commandsOf s)))
+
+abbrev pub firstReturns : List ℕ → ℕ → ℕ → Returned
+firstReturns s n lent = advanceReturns (verdictOf s) (firstRows s n) lent
+
+-- the answer and the buffer's contents at exit
+pub record Shows (s : List ℕ) (n : ℕ) (before exit : List ℕ) (r : Advanced) : Type 0 where
+  pub answer : rolled (r .answer) ≡ firstReturns s n (length before)
+  pub buffer : exit ≡ after (firstReturns s n (length before)) (rollBytes (firstRows s n)) before

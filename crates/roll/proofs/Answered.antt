@@ -1,0 +1,117 @@
+-- What `roll` prints. Main theorems: `prints-roll`, the head and the lines of the roll's own rows; `prints-refusal`; `reads-enough`, the first 5,131 bytes of the input decide what is printed.
+use mathlib.Core.Path.{_≡_, refl, sym, ap, _∙_, subst}
+use mathlib.Core.List.{List, _++_}
+use Prim.Native.Nat.{ℕ, _+_, _*_, _≤_}
+use native.Mathlib.Omega.{arith}
+use lib.ListN.{length, take, drop, length-append, length-take}
+use Rattle.layout.specs.Bytes.{AllBytes}
+use Rattle.sheet.specs.Lent.{andThen}
+use Rattle.sheet.specs.Listing.{Listing, listing}
+use Rattle.sheet.specs.Returned.{Returned, accepted, gives, refused}
+use Rattle.sheet.specs.Scan.{verdictOf, commandsOf}
+use Rattle.sheet.proofs.Decided.{Decided, decided}
+use Rattle.sheet.proofs.Lent.{said-given, put, gave, refused-so}
+use Rattle.sheet.proofs.RoundTrip.{accepted-records}
+use Rattle.rule.specs.RowBytes.{rollBytes}
+use Rattle.rule.specs.Rows.{timeOf}
+use Rattle.rule.specs.Selection.{rollOf}
+use Rattle.rule.proofs.Existence.{roll-length}
+use Rattle.rule.proofs.RowBytes.{roll-bytes-length}
+use Rattle.cells.specs.Grid.{figureCheck, g8}
+use Rattle.cells.specs.Touched.{Counted}
+use Rattle.cells.proofs.Figures.{figure-is, figure-checked}
+use Rattle.plain_run.specs.Rolled.{needed}
+use Rattle.grid_run.specs.declared.GridRolled.{GridRolled}
+use Rattle.grid_run.specs.declared.GridRolled.the-variants.{Rows, Refused}
+use Rattle.grid_run.specs.GridRolled.{gridRolled, CountIn, GridRolls}
+use Rattle.stored.specs.Stored.{rowsIn}
+use Rattle.stored.proofs.ReadBack.{roll-back}
+use Rattle.text.specs.Lines.{headOf, refusedOf}
+use Rattle.roll.specs.Answer.{linesOf, answerOf, Answers}
+use Rattle.roll.specs.Behind.{Behind}
+use Rattle.roll.proofs.FirstBytes.{Decides, first-bytes}
+use Rattle.roll.proofs.Putting.{and-behind}
+
+-- 8 is one of the six figures
+same-said : (v : Returned) → andThen v (figureCheck 8) ≡ v
+unfolding andThen
+same-said accepted = figure-checked 8 (figure-is g8)
+same-said (gives n) = refl
+same-said (refused n p) = refl
+
+-- what the buffer of 256 rows holds where rows are given
+pub record Read (s rows : List ℕ) (n cells : ℕ) : Type 0 where
+  pub accepts : verdictOf s ≡ accepted
+  pub count : n ≡ length (listing (commandsOf s) .tracks)
+  pub few : n ≤ 256
+  pub room : 29 * n ≤ length rows
+  pub are : rowsIn rows n ≡ rollOf (listing (commandsOf s))
+  pub counted : Counted (timeOf (rollOf (listing (commandsOf s)))) 8 (listing (commandsOf s) .tracks) cells
+
+module _ (s : List ℕ) (bytes : AllBytes s) {before rows : List ℕ} (long : length before ≡ 7424) {r : GridRolled} (h : GridRolls (verdictOf s) (listing (commandsOf s)) 8 before rows r) where
+  abbrev S : Listing
+  S = listing (commandsOf s)
+
+  abbrev v : Returned
+  v = andThen (verdictOf s) (figureCheck 8)
+
+  v-decided : Decided v
+  v-decided = subst Decided (sym (same-said (verdictOf s))) (decided s)
+
+  enough : verdictOf s ≡ accepted → needed S ≤ length before
+  enough e = omega (arith, long, accepted-records s bytes e .few-tracks)
+
+  pub rows-read : {n cells : ℕ} → r ≡ Rows n cells → Read s rows n cells
+  rows-read {n} {cells} q =
+      let R = rollOf S in
+      let g = gave (needed S) (length before) (length (S .tracks)) v-decided (sym (ap gridRolled q) ∙ h .answer) in
+      let ok : verdictOf s ≡ accepted = sym (same-said (verdictOf s)) ∙ g .accepts in
+      let acc = accepted-records s bytes ok in
+      let x = h .buffer ∙ put (rollBytes R) before (said-given (needed S) (length before) (length (S .tracks)) (g .accepts) (g .room)) in
+      let c : length R ≡ n = roll-length S acc ∙ sym (g .count) in
+      record {
+        accepts = ok;
+        count = g .count;
+        few = omega (arith, g .count, acc .few-tracks);
+        room = omega (arith, ap length x, length-append (rollBytes R) (drop (length (rollBytes R)) before), roll-bytes-length R, c);
+        are = ap (λ (b : List ℕ). rowsIn b n) x ∙ ap (rowsIn (rollBytes R ++ drop (length (rollBytes R)) before)) (sym c) ∙ roll-back S acc (drop (length (rollBytes R)) before);
+        counted = subst (CountIn S 8) q (h .cells);
+      }
+
+  pub as-refused : {n p : ℕ} → r ≡ Refused n p → verdictOf s ≡ refused n p
+  as-refused q =
+      sym (same-said (verdictOf s))
+      ∙ refused-so (needed S) (length before) (length (S .tracks)) v-decided (λ e. enough (sym (same-said (verdictOf s)) ∙ e)) (sym (ap gridRolled q) ∙ h .answer)
+
+module _ (s : List ℕ) {out exit : List ℕ} {end : ℕ} where
+  pub prints-roll : {rows mid : List ℕ} {at n cells : ℕ} → Read s rows n cells → Behind (headOf n cells) 0 out at mid → Behind (linesOf (rowsIn rows n)) at mid end exit → Answers s (take end exit)
+  unfolding answerOf
+  prints-roll {cells = cells} d h k =
+      let S = listing (commandsOf s) in
+      let b = and-behind h k in
+      record {
+        cells = cells;
+        counted = λ e. d .counted;
+        is = b .is ∙ rw (d .accepts, d .are, d .count) refl;
+      }
+
+  pub prints-refusal : {n p : ℕ} → verdictOf s ≡ refused n p → Behind (refusedOf n p) 0 out end exit → Answers s (take end exit)
+  unfolding answerOf
+  prints-refusal e b = record { cells = 0; counted = λ f. absurd (let g = sym e ∙ f in let z : _≡_ {A = ℕ} 0 1 = cc in omega arith); is = b .is ∙ rw e refl }
+
+-- the text's end is in the buffer
+pub within : {text before exit : List ℕ} {end : ℕ} → Behind text 0 before end exit → end ≤ length exit
+within {exit = exit} {end} b = omega (arith, ap length (b .is), length-take end exit, b .long)
+
+-- the text for the first n bytes of a sheet is the text for the sheet
+pub reads-enough : (n : ℕ) (s text : List ℕ) → 5131 ≤ n → Answers (take n s) text → Answers s text
+unfolding answerOf
+reads-enough n s text h a = go (verdictOf s) refl (decided s)
+  where
+    d : Decides n s
+    d = first-bytes n s h
+
+    go : (v : Returned) → verdictOf s ≡ v → Decided v → Answers s text
+    go accepted e k = subst (λ (z : List ℕ). Answers z text) (d .whole e) a
+    go (gives m) e k = absurd k
+    go (refused m p) e k = record { cells = 0; counted = λ f. absurd (let g = sym e ∙ f in let z : _≡_ {A = ℕ} 0 1 = cc in omega arith); is = a .is ∙ rw (d .verdict, e) refl }

@@ -1,0 +1,102 @@
+-- Texts put into a buffer one behind the other. Main theorems: `in-front` and `in-part`, what a line written into the buffer or into its rest leaves there; `one-row-more`, the line of the next row.
+use mathlib.Core.Path.{_≡_, refl, sym, ap, _∙_}
+use mathlib.Core.List.{List, [], _∷_, _++_, append-assoc, append-nil}
+use Prim.Native.Nat.{ℕ, _+_, _*_, _/_, _≤_}
+use native.Mathlib.Numerals.{add-one}
+use native.Mathlib.Omega.{arith}
+use borrow.Author.Tests.{lt-ltb}
+use lib.ListN.{length, take, drop, length-append, length-drop}
+use lib.Seq.{length-take-le, take-at}
+use Rattle.sheet.specs.Lent.{andThen}
+use Rattle.sheet.specs.Returned.{accepted, gives}
+use Rattle.sheet.proofs.Lent.{said-given, put}
+use Rattle.rule.specs.declared.Row.{Row}
+use Rattle.stored.specs.declared.Stored.{Stored}
+use Rattle.stored.specs.declared.Stored.the-variants.{Found, Nothing}
+use Rattle.stored.specs.Stored.{rowFrom, rowIn, rowsIn}
+use Rattle.text.specs.declared.Text.{Text}
+use Rattle.text.specs.declared.Text.the-variants.{Length, Refused}
+use Rattle.text.specs.Lines.{lineOf}
+use Rattle.text.specs.Printed.{printed, Prints}
+use Rattle.roll.specs.Answer.{linesOf}
+use Rattle.roll.specs.Behind.{Behind, lengthIn}
+
+-- ---- one text
+
+length-given : (t : Text) (n : ℕ) → printed t ≡ gives n → lengthIn t ≡ n
+length-given (Length m) n e = cc
+length-given (Refused m p) n e = absurd (let z : _≡_ {A = ℕ} 0 1 = cc in omega arith)
+
+module _ {text before exit : List ℕ} {t : Text} (h : Prints text before exit t) (room : length text ≤ length before) where
+  pub text-long : lengthIn t ≡ length text
+  unfolding andThen
+  text-long = length-given t (length text) (h .answer ∙ said-given {v = accepted} (length text) (length before) (length text) refl room)
+
+  text-there : exit ≡ text ++ drop (length text) before
+  unfolding andThen
+  text-there = h .buffer ∙ put text before (said-given {v = accepted} (length text) (length before) (length text) refl room)
+
+  pub in-front : {end : ℕ} → end ≡ 0 + lengthIn t → Behind text 0 before end exit
+  in-front {end} e =
+      let n : length text ≡ end = omega (arith, text-long) in
+      record {
+        is = ap (take end) text-there ∙ take-at text (drop (length text) before) end n;
+        long = omega arith;
+        same = ap length text-there ∙ length-append text (drop (length text) before) ∙ omega (arith, length-drop (length text) before);
+      }
+
+-- into the part of a buffer from `at` on, of which `lent` is lent
+pub in-part : {text before lent part : List ℕ} {t : Text} {at end : ℕ} (more : List ℕ) → Prints text lent part t → length text ≤ length lent → end ≡ at + lengthIn t
+    → at + (length lent + length more) ≡ length before → Behind text at before end (take at before ++ (part ++ more))
+in-part {text} {before} {lent} {part} {t} {at} {end} more h room e sizes =
+    let n = text-long h room in
+    let p = text-there h room in
+    let d = length-drop (length text) lent in
+    let rest = drop (length text) lent in
+    let a : length (take at before) ≡ at = length-take-le at before (omega arith) in
+    let q : take at before ++ (part ++ more) ≡ (take at before ++ text) ++ (rest ++ more) = ap (λ (y : List ℕ). take at before ++ (y ++ more)) p ∙ simp append-assoc in
+    let w : length (take at before ++ text) ≡ end = length-append (take at before) text ∙ omega arith in
+    record {
+      is = ap (take end) q ∙ take-at (take at before ++ text) (rest ++ more) end w;
+      long = omega arith;
+      same = ap length q ∙ simp length-append (omega arith);
+    }
+
+-- ---- one behind the other
+
+pub nothing-put : (at : ℕ) (before : List ℕ) → Behind [] at before at before
+nothing-put at before = record { is = sym (append-nil (take at before)); long = omega arith; same = refl }
+
+pub and-behind : {a b before mid exit : List ℕ} {at here end : ℕ} → Behind a at before here mid → Behind b here mid end exit → Behind (a ++ b) at before end exit
+and-behind {a} {b} {before} {mid} {exit} {at} {here} {end} h k =
+    record {
+      is = k .is ∙ ap (λ (y : List ℕ). y ++ b) (h .is) ∙ append-assoc (take at before) a b;
+      long = omega (arith, h .long, k .long, length-append a b);
+      same = k .same ∙ h .same;
+    }
+
+-- ---- rows
+
+lines-snoc : (l : List Row) (r : Row) → linesOf (l ++ (r ∷ [])) ≡ linesOf l ++ lineOf r
+unfolding linesOf
+lines-snoc [] r = append-nil (lineOf r)
+lines-snoc (q ∷ l) r = rw (lines-snoc l r, append-assoc)
+
+module _ (s : List ℕ) (k : ℕ) (room : 29 * (k + 1) ≤ length s) where
+  there : rowIn s k ≡ Found (rowFrom s (29 * k))
+  unfolding rowIn
+  there = simp (lt-ltb k (length s / 29) (omega arith))
+
+  pub row-there : {row : Row} {o : Stored} → o ≡ rowIn s k → o ≡ Found row → row ≡ rowFrom s (29 * k)
+  row-there e f = let g = there in cc
+
+  pub no-row : {o : Stored} → o ≡ rowIn s k → o ≡ Nothing → ⊥
+  no-row e f = let g = there in let z : _≡_ {A = ℕ} 0 1 = cc in omega arith
+
+pub no-rows-yet : (s : List ℕ) (at : ℕ) (before : List ℕ) → Behind (linesOf (rowsIn s 0)) at before at before
+unfolding linesOf rowsIn
+no-rows-yet s at before = nothing-put at before
+
+pub one-row-more : (s : List ℕ) {before mid exit : List ℕ} {at here end : ℕ} (k : ℕ) {row : Row} → Behind (linesOf (rowsIn s k)) at before here mid → row ≡ rowFrom s (29 * k) → Behind (lineOf row) here mid end exit → Behind (linesOf (rowsIn s (k + 1))) at before end exit
+unfolding rowsIn
+one-row-more s k h e b = rw (add-one, lines-snoc (rowsIn s k) (rowFrom s (29 * k))) (and-behind h (rw e at b))

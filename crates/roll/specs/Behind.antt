@@ -1,0 +1,18 @@
+-- A text put into a buffer behind what is there.
+use mathlib.Core.Path.{_≡_}
+use mathlib.Core.List.{List, _++_}
+use Prim.Native.Nat.{ℕ, _+_}
+use lib.ListN.{length, take}
+use Rattle.text.specs.declared.Text.{Text}
+use Rattle.text.specs.declared.Text.the-variants.{Length, Refused}
+
+-- behind the first `at` bytes, up to `end`
+pub record Behind (text : List ℕ) (at : ℕ) (before : List ℕ) (end : ℕ) (exit : List ℕ) : Type 0 where
+  pub is : take end exit ≡ take at before ++ text
+  pub long : end ≡ at + length text
+  pub same : length exit ≡ length before
+
+-- the length of a text that was written
+abbrev pub lengthIn : Text → ℕ
+lengthIn (Length n) = n
+lengthIn (Refused n p) = 0
