@@ -24,8 +24,8 @@ pub extern "C" fn fissure_check(s: &[u8], second: &mut u64) -> u64
             *second = 0;
             0
         }
-        Verdict::Refused(number, place) => {
-            *second = place as u64;
+        Verdict::Refused(number, at) => {
+            *second = at as u64;
             number as u64
         }
     }

@@ -1,6 +1,6 @@
--- One step of the search, at the place that it has reached: `hit` and `miss` where a whole entry stands, `no-head` and `no-name` where none does.
+-- One step of the search, at the place that it has reached: `hit` and `miss` where a whole entry stands, `no-head` and `no-name` where none does; `goes-on`, `still`, `ended` of the hit that is kept.
 use Prim.Native.Nat.{ℕ, suc, _≤_, _<_, _-_, _+_, _*_}
-use mathlib.Core.Path.{_≡_, refl, ap, _∙_}
+use mathlib.Core.Path.{_≡_, refl, sym, ap, _∙_}
 use mathlib.Core.List.{List, [], _∷_}
 use native.Mathlib.Omega.{arith}
 use lib.ListN.{length, getD, take, drop, length-take, length-drop}
@@ -31,6 +31,24 @@ first at e l q h = simp (eq-eqb _ _ h)
 pub next : (at : ℕ) (e : Entry) (l : List Entry) (q : ℕ) → (e .id ≡ q → ⊥) → firstNamed at (e ∷ l) q ≡ firstNamed (at + 3 + length (e .name)) l q
 unfolding firstNamed
 next at e l q h = simp (ne-eqb _ _ h)
+
+-- ---- a hit kept while the rest is passed over
+
+abbrev pub orLater : Found → Found → Found
+orLater (At start size) later = At start size
+orLater Nothing later = later
+
+pub goes-on : (hit later all : Found) → hit ≡ Nothing → later ≡ all → orLater hit later ≡ all
+goes-on hit later all h e = rw h e
+
+pub still : (hit later all : Found) → hit ≡ Nothing → orLater hit later ≡ all → later ≡ all
+still hit later all h e = rw h at e
+
+pub ended : (hit later all : Found) → later ≡ Nothing → orLater hit later ≡ all → hit ≡ all
+ended (At start size) later all h e = e
+ended Nothing later all h e = sym h ∙ e
+
+-- ---- at a place
 
 module _ (s : List ℕ) (at q : ℕ) where
   pub no-head : length s - at < 3 → found s at q ≡ Nothing

@@ -20,23 +20,27 @@ fn wide(b: u8) -> usize
     b as usize
 }
 
-// Entry by entry: an entry has 3 bytes before its name.
+// Entry by entry: an entry has 3 bytes before its name. The first with the id is the last that is looked at.
 fn find(list: &[u8], id: u16) -> Found
     ensures { λ r. ⌜ r ≡ nameOf (now (list .entry)) id ⌝ }
 {
+    let mut hit = Found::Nothing;
     let mut at: usize = 0;
     while 3 <= list.len() - at {
         let start = at + 3;
         let size = wide(list[at + 2]);
         if list.len() - start < size {
-            return Found::Nothing;
+            return hit;
         }
+        let next = start + size;
         if get16(list, at) == id {
-            return Found::At(start, size);
+            hit = Found::At(start, size);
+            at = list.len();
+        } else {
+            at = next;
         }
-        at = start + size;
     }
-    Found::Nothing
+    hit
 }
 
 // The name in a list, or the empty part at the start of `tracks`.

@@ -27,7 +27,7 @@ use Rattle.heap.specs.Key.{NotAfter, keyAt}
 use Rattle.heap.specs.Queue.{Lowered}
 use Rattle.pending.specs.Pending.{pendingKey}
 use Rattle.pending.proofs.Order.{sooner-cause}
-use Rattle.sweep.specs.State.{spotAt, Looked}
+use Rattle.sweep.specs.State.{spotAt, Looked, Marked, Queued}
 use Rattle.sweep.specs.Busy.{Frame, Busy, Later}
 use Rattle.sweep.proofs.Stores.{best-better, store-best, mark-one, marked-both, named-still}
 use Rattle.sweep.proofs.Queue.{queue-kept, queue-lowered}
@@ -56,6 +56,24 @@ module _ {F : Frame} {starts speeds : List ℕ} {n s b i : ℕ} {table over mark
 
   pub busy-tables : Tables b table over
   busy-tables = record { table-long = w .looked .table-long; over-long = w .looked .over-long; times = λ k l x. w .looked .fine k l .at }
+
+  -- the tables and the queue anew, the rest as it was
+  busy-with : {table′ marks′ keys′ heap′ place′ : List ℕ} → Looked S (F .done) s (F .ls) b table′ over marks′ → Marked (F .es) b marks′ → Queued S s b i table′ over spots keys′ heap′ place′ p →
+      Busy F starts speeds n s b i table′ over marks′ spots keys′ heap′ place′ p
+  busy-with l m q =
+      record {
+        accepted = w .accepted;
+        tracks-are = w .tracks-are;
+        tracked = w .tracked;
+        side-in = w .side-in;
+        here = w .here;
+        runs = w .runs;
+        spots-long = w .spots-long;
+        spots-in = w .spots-in;
+        looked = l;
+        marked = m;
+        queued = q;
+      }
 
   -- the tip at j looks at the tip at q
   module _ (j q : ℕ) (lj : j < b) (lq : q < b) (runs : getD over j 0 ≡ 0) (c : Cause)
@@ -96,19 +114,7 @@ module _ {F : Frame} {starts speeds : List ℕ} {n s b i : ℕ} {table over mark
   pub look-own : (q : ℕ) (lq : q < b) (c : Cause) → TipOffered (trackAt starts speeds i) (trackAt starts speeds q) q (getD over q 0) (getD table (7 * q) 0) (getD table (7 * q + 1) 0) (causeAt table i) c →
       Busy F starts speeds n s b i (sets table (7 * i) (numbersOf c)) over marks spots keys heap place p
   look-own q lq c o =
-      record {
-        accepted = w .accepted;
-        tracks-are = w .tracks-are;
-        tracked = w .tracked;
-        side-in = w .side-in;
-        here = w .here;
-        runs = w .runs;
-        spots-long = w .spots-long;
-        spots-in = w .spots-in;
-        looked = looked-new i q (w .here) lq (w .runs) c o;
-        marked = w .marked;
-        queued = queue-kept (w .queued) (sets table (7 * i) (numbersOf c)) spots (λ j h d. stored-other table i c j d) (λ j h d. refl);
-      }
+      busy-with (looked-new i q (w .here) lq (w .runs) c o) (w .marked) (queue-kept (w .queued) (sets table (7 * i) (numbersOf c)) spots (λ j h d. stored-other table i c j d) (λ j h d. refl))
 
   -- another looks at it, and its event may come sooner
   module _ (j : ℕ) (lj : j < b) (d : j ≢ i) (runs : getD over j 0 ≡ 0) (c : Cause)
@@ -125,38 +131,16 @@ module _ {F : Frame} {starts speeds : List ℕ} {n s b i : ℕ} {table over mark
 
     pub look-other : {keys′ heap′ place′ : List ℕ} → Lowered keys p heap j (pendingKey (trackAt starts speeds j) s (spotAt spots j) (causeAt t j)) keys′ heap′ place′ → Busy F starts speeds n s b i t over marks spots keys′ heap′ place′ p
     look-other m =
-        record {
-          accepted = w .accepted;
-          tracks-are = w .tracks-are;
-          tracked = w .tracked;
-          side-in = w .side-in;
-          here = w .here;
-          runs = w .runs;
-          spots-long = w .spots-long;
-          spots-in = w .spots-in;
-          looked = looked-new j i lj (w .here) runs c o;
-          marked = w .marked;
-          queued = queue-lowered (w .queued) j lj (busy-place j lj .1) d runs (λ q h x. stored-other table j c q x) (ap (λ (z : Track). pendingKey z s (spotAt spots j) (causeAt t j)) (sym (busy-tip j lj))) m;
-        }
+        busy-with (looked-new j i lj (w .here) runs c o) (w .marked)
+        (queue-lowered (w .queued) j lj (busy-place j lj .1) d runs (λ q h x. stored-other table j c q x) (ap (λ (z : Track). pendingKey z s (spotAt spots j) (causeAt t j)) (sym (busy-tip j lj))) m)
 
   -- both have looked
   pub mark-both : (j : ℕ) → j < b → j ≢ i → (tipAt S j .id ≢ tipAt S i .id → Beats (F .done) (candOf S (causeAt table i)) (tipAt S i) (tipAt S j)) →
       (getD over j 0 ≡ 0 → tipAt S i .id ≢ tipAt S j .id → Beats (F .done) (candOf S (causeAt table j)) (tipAt S j) (tipAt S i)) →
       Busy F starts speeds n s b i table over (set (set marks (256 * i + j) 1) (256 * j + i) 1) spots keys heap place p
   mark-both j lj d f g =
-      record {
-        accepted = w .accepted;
-        tracks-are = w .tracks-are;
-        tracked = w .tracked;
-        side-in = w .side-in;
-        here = w .here;
-        runs = w .runs;
-        spots-long = w .spots-long;
-        spots-in = w .spots-in;
-        looked = mark-one (mark-one (w .looked) i j (busy-place j lj .1) (λ h r. f)) j i (busy-place i (w .here) .1) (λ h. g);
-        marked = marked-both (w .marked) i j (w .here) lj (omega (arith, w .looked .begun-in, w .looked .tracks-in));
-        queued = w .queued;
-      }
+      busy-with (mark-one (mark-one (w .looked) i j (busy-place j lj .1) (λ h r. f)) j i (busy-place i (w .here) .1) (λ h. g))
+      (marked-both (w .marked) i j (w .here) lj (omega (arith, w .looked .begun-in, w .looked .tracks-in))) (w .queued)
 
   pub marks-later : (j : ℕ) → j < b → Later F b over table marks table (set (set marks (256 * i + j) 1) (256 * j + i) 1)
   marks-later j lj =

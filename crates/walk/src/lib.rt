@@ -179,13 +179,12 @@ fn turned(lx: Onset, ly: Onset, vx: i8, vy: i8, k: Cell) -> Crossing
     requires { ⌜ Ready lx × Ready ly × (natAbs vx ≤ 63) × (natAbs vy ≤ 63) × Near k ⌝ }
     ensures { λ r. ⌜ Crosses (turnOf lx ly vx vy k) r ⌝ }
 {
+    let column = onward(vx, k.column);
+    let row = onward(vy, k.row);
     if prior(lx, ly) {
         return Crossing {
             when: lx,
-            cell: Cell {
-                column: onward(vx, k.column),
-                row: k.row,
-            },
+            cell: Cell { column, row: k.row },
         };
     }
     if prior(ly, lx) {
@@ -193,16 +192,13 @@ fn turned(lx: Onset, ly: Onset, vx: i8, vy: i8, k: Cell) -> Crossing
             when: ly,
             cell: Cell {
                 column: k.column,
-                row: onward(vy, k.row),
+                row,
             },
         };
     }
     Crossing {
         when: lx,
-        cell: Cell {
-            column: onward(vx, k.column),
-            row: onward(vy, k.row),
-        },
+        cell: Cell { column, row },
     }
 }
 
