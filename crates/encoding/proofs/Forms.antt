@@ -3,6 +3,7 @@ use Prim.Native.Nat.{ℕ, zero, suc, _≤_, _<_, _+_, _*_}
 use mathlib.Core.Path.{_≡_, refl, sym, ap, _∙_}
 use mathlib.Core.List.{List, [], _∷_, _++_, append-assoc, append-nil, map, map-append}
 use native.Mathlib.Nat.{mul-le-mul-right}
+use native.Mathlib.Decide.{decLe}
 use native.Mathlib.Omega.{arith}
 use lib.ListN.{length, take, drop, set, length-append, length-map, length-take}
 use lib.Seq.{sets, take-all, take-at, take-append-le, length-take-le}
@@ -15,7 +16,8 @@ use Rattle.sheet.specs.Format.{encode, encodeAll, width}
 use Rattle.sheet.specs.Ordered.{sortBy}
 use Rattle.sheet.proofs.Format.{encode-length}
 use Rattle.sorting.proofs.Insertion.{sort-length, sort-map}
-use Rattle.encoding.specs.Run.{run, Ran, idOf}
+use Rattle.encoding.specs.Run.{run, Ran, idOf, InForm}
+use Rattle.encoding.proofs.Run.{take-map}
 
 run-append : (l k : List Command) → run (l ++ k) ≡ run l ++ run k
 unfolding run
@@ -81,16 +83,17 @@ module _ (l : List Command) (b : Command) (n : ℕ) (h : length l < n) where
   unfolding run
   more-length = rw (more-claimed, run-append, append-nil) (length-append (run l) (encode b) ∙ ap (λ k. length (run l) + k) (encode-length b))
 
-take-map : {A B : Type 0} (f : A → B) (n : ℕ) (l : List A) → take n (map f l) ≡ map f (take n l)
-take-map f zero l = refl
-take-map f (suc n) [] = refl
-take-map f (suc n) (a ∷ l) = ap (λ s. f a ∷ s) (take-map f n l)
-
 -- a kind's records as commands, each of w bytes; n of the records are claimed, `blank` behind them
 module _ {A : Type 0} (f : A → Command) (w : ℕ) (one-width : (a : A) → width (f a) ≡ w) (l : List A) (blank : A) (n : ℕ) {commands : List Command}
-    (e : commands ≡ map f l) where
+    (e : InForm f l n commands) where
   claimed : take n (commands ++ (f blank ∷ [])) ≡ map f (take n (l ++ (blank ∷ [])))
-  claimed = rw (e, ← map-append f l (blank ∷ [])) (take-map f n (l ++ (blank ∷ [])))
+  claimed = go (decLe n (length l))
+    where
+      go : Dec (n ≤ length l) → take n (commands ++ (f blank ∷ [])) ≡ map f (take n (l ++ (blank ∷ [])))
+      go (yes h) = take-append-le n commands (f blank ∷ []) (omega (arith, e .long)) ∙ e .first ∙ ap (map f) (sym (take-append-le n l (blank ∷ []) h))
+      go (no h) =
+          let all : commands ≡ map f l = sym (take-all n commands (omega (arith, e .long))) ∙ e .first ∙ ap (map f) (take-all n l (omega arith)) in
+          rw (all, ← map-append f l (blank ∷ [])) (take-map f n (l ++ (blank ∷ [])))
 
   pub claimed-ran : {at end : ℕ} {before after : List ℕ} → Ran at (take n (commands ++ (f blank ∷ []))) before after end
       → Ran at (map f (take n (l ++ (blank ∷ [])))) before after end
@@ -102,7 +105,7 @@ module _ {A : Type 0} (f : A → Command) (w : ℕ) (one-width : (a : A) → wid
 
   module _ (h : n ≤ length l) where
     sorted : sortBy idOf (take n commands) ≡ map f (sortBy (λ a. idOf (f a)) (take n (l ++ (blank ∷ []))))
-    sorted = rw (e, take-map, sort-map idOf f, take-append-le n l (blank ∷ []))
+    sorted = rw (e .first, sort-map idOf f, take-append-le n l (blank ∷ []))
 
     pub sorted-ran : {at end : ℕ} {before after : List ℕ} → Ran at (sortBy idOf (take n commands)) before after end
         → Ran at (map f (sortBy (λ a. idOf (f a)) (take n (l ++ (blank ∷ []))))) before after end

@@ -1,8 +1,8 @@
 -- Commands one behind the other, without the end.
 use mathlib.Core.Path.{_≡_}
-use mathlib.Core.List.{List, [], _∷_, _++_}
+use mathlib.Core.List.{List, [], _∷_, _++_, map}
 use Prim.Native.Nat.{ℕ, _+_}
-use lib.ListN.{length}
+use lib.ListN.{length, take}
 use lib.Seq.{sets}
 use Rattle.sheet.specs.declared.Command.{Command}
 use Rattle.sheet.specs.declared.Command.the-variants.{AddTrack, AddWall}
@@ -25,3 +25,8 @@ idOf (AddWall w) = w .id
 -- what stands past the end of an array of commands
 abbrev pub noCommand : Command
 noCommand = AddTrack noTrack
+
+-- m has as many elements as l, the first n of them those of l in another form
+pub record InForm {A : Type 0} (f : A → Command) (l : List A) (n : ℕ) (m : List Command) : Type 0 where
+  pub long : length m ≡ length l
+  pub first : take n m ≡ map f (take n l)

@@ -1,3 +1,4 @@
+-- `frame` answers every input: the bytes that it reads fit the buffer.
 use borrow.Author.Needs.{needs}
 use Prim.Native.Nat.{_-_}
 use mathlib.Core.Path.{sym}

@@ -1,3 +1,4 @@
+-- `main` ends: its turns are counted down.
 use borrow.Author.Needs.{needs}
 use Prim.Native.Nat.{_-_}
 use mathlib.Core.Path.{_≡_}

@@ -1,3 +1,4 @@
+-- `print_hex` ends, and reads within the slice.
 use borrow.Author.Needs.{needs}
 use Prim.Native.Nat.{_-_}
 use lib.ListN.{length}
