@@ -14,7 +14,7 @@ use Rattle.cells.proofs.Walk.{next}
 use Rattle.walk.specs.declared.Onset.{Onset}
 use Rattle.walk.specs.declared.Crossing.{Crossing}
 use Rattle.walk.specs.Onsets.{onset, onsetOf, priorOf, Gives, Crosses, crossOf}
-use Rattle.walk.proofs.Counting.{next-near}
+use Rattle.walk.proofs.Nearby.{next-near}
 use Rattle.heap.specs.declared.Key.{Key}
 use Rattle.heap.specs.declared.Event.{Event}
 use Rattle.heap.specs.declared.Event.the-variants as event
