@@ -20,7 +20,7 @@ pub record OtherOrder (first second : List ℕ) : Type 0 where
   pub order : List·Permᴰ (commandsOf first) (commandsOf second)
 
 -- the listings, the figure, and the two buffers at entry
-pub record Lent : Type 0 where
+pub record Entry : Type 0 where
   pub first : List ℕ
   pub second : List ℕ
   pub figure : ℕ
@@ -28,13 +28,13 @@ pub record Lent : Type 0 where
   pub grid : List ℕ
 
 -- both accepted or neither; "The rolls written are equal row for row" where both buffers are long enough
-pub record Agree (e : Lent) (plain grid : List ℕ) : Type 0 where
+pub record Agree (e : Entry) (plain grid : List ℕ) : Type 0 where
   pub alike : (verdictOf (e .first) ≡ accepted) ↔ (verdictOf (e .second) ≡ accepted)
   pub equal : let S = listing (commandsOf (e .first)) in
       verdictOf (e .first) ≡ accepted → Figure (e .figure) → needed S ≤ length (e .plain) → needed S ≤ length (e .grid) → take (needed S) plain ≡ take (needed S) grid
 
 -- what each run answers and writes, and that they agree
-pub record Exchanges (e : Lent) (plain grid : List ℕ) (r : Exchanged) : Type 0 where
+pub record Exchanges (e : Entry) (plain grid : List ℕ) (r : Exchanged) : Type 0 where
   pub by-plain : Rolls (verdictOf (e .first)) (listing (commandsOf (e .first))) (e .plain) plain (r .plain)
   pub by-grid : GridRolls (verdictOf (e .second)) (listing (commandsOf (e .second))) (e .figure) (e .grid) grid (r .grid)
   pub agree : OtherOrder (e .first) (e .second) → Agree e plain grid

@@ -21,7 +21,7 @@ use Rattle.cells.proofs.Walk.{next}
 use Rattle.walk.specs.Onsets.{onset, onsetOf, priorOf}
 use Rattle.walk.proofs.Onsets.{is-before, past-is}
 use Rattle.heap.specs.declared.Key.{Key}
-use Rattle.heap.specs.Key.{sooner, milder, level, Before, NotAfter}
+use Rattle.heap.specs.Key.{sooner, milder, level, KeyBefore, NotAfter}
 use Rattle.heap.specs.Late.{entryLate, lateOf}
 use Rattle.heap.proofs.KeyOrder.{not-after-refl, not-after-trans, before-not-after, not-both}
 use Rattle.pending.specs.Pending.{entryKey, causeTime, causeKey, entersFirst, pendingKey, reachedOf, eventOf}
@@ -40,20 +40,20 @@ module _ (n d m e : ℕ) (p : 0 < d) (q : 0 < e) where
 -- ---- an entry at n / d against a cause: the test by products is the order of the keys
 
 module _ (n d i j : ℕ) (c : Cause) (p : 0 < d) (q : 0 < c .ud) where
-  entry-lt : (o : ℕ) → o ≤ 1 → 2 * (n * c .ud) + o < 2 * (c .u * d) + 1 → Before (entryKey (onset n d o) i) (causeKey c j)
+  entry-lt : (o : ℕ) → o ≤ 1 → 2 * (n * c .ud) + o < 2 * (c .u * d) + 1 → KeyBefore (entryKey (onset n d o) i) (causeKey c j)
   entry-lt zero l h = go (decLt (n * c .ud) (c .u * d))
     where
-      go : Dec (n * c .ud < c .u * d) → Before (entryKey (onset n d 0) i) (causeKey c j)
+      go : Dec (n * c .ud < c .u * d) → KeyBefore (entryKey (onset n d 0) i) (causeKey c j)
       go (yes k) = sooner (time-lt n d (c .u) (c .ud) p q k)
       go (no k) = milder (time-eq n d (c .u) (c .ud) p q (omega arith)) (omega arith)
   entry-lt (suc zero) l h = sooner (time-lt n d (c .u) (c .ud) p q (omega arith))
   entry-lt (suc (suc o)) l h = absurd (omega arith)
 
-  cause-lt : (o : ℕ) → o ≤ 1 → 2 * (c .u * d) + 1 ≤ 2 * (n * c .ud) + o → Before (causeKey c j) (entryKey (onset n d o) i)
+  cause-lt : (o : ℕ) → o ≤ 1 → 2 * (c .u * d) + 1 ≤ 2 * (n * c .ud) + o → KeyBefore (causeKey c j) (entryKey (onset n d o) i)
   cause-lt zero l h = sooner (time-lt (c .u) (c .ud) n d q p (omega arith))
   cause-lt (suc zero) l h = go (decLt (c .u * d) (n * c .ud))
     where
-      go : Dec (c .u * d < n * c .ud) → Before (causeKey c j) (entryKey (onset n d 1) i)
+      go : Dec (c .u * d < n * c .ud) → KeyBefore (causeKey c j) (entryKey (onset n d 1) i)
       go (yes k) = sooner (time-lt (c .u) (c .ud) n d q p k)
       go (no k) = milder (time-eq (c .u) (c .ud) n d q p (omega arith)) (omega arith)
   cause-lt (suc (suc o)) l h = absurd (omega arith)
@@ -77,13 +77,13 @@ module _ (a : Track) (s : ℕ) (k : Cell) (c : Cause) (f : Fine c) where
   pub enters-den : entersFirst a s k c ≡ true → 0 < exit a s k .den
   enters-den e = let h = enters-yes e in after-den (exit a s k) (h .at) (h .above)
 
-  pub entry-before : (i j : ℕ) → entersFirst a s k c ≡ true → Before (entryKey (onsetOf (exit a s k)) i) (causeKey c j)
+  pub entry-before : (i j : ℕ) → entersFirst a s k c ≡ true → KeyBefore (entryKey (onsetOf (exit a s k)) i) (causeKey c j)
   unfolding entersFirst priorOf
   entry-before i j e =
       let x = exit a s k in
       entry-lt (x .num) (x .den) i j c (enters-den e) (f .at .den-pos) (x .late) (x .late-bit) (ltb-true _ _ e)
 
-  pub cause-before : (i j : ℕ) → entersFirst a s k c ≡ false → 0 < exit a s k .den → Before (causeKey c j) (entryKey (onsetOf (exit a s k)) i)
+  pub cause-before : (i j : ℕ) → entersFirst a s k c ≡ false → 0 < exit a s k .den → KeyBefore (causeKey c j) (entryKey (onsetOf (exit a s k)) i)
   unfolding entersFirst priorOf
   cause-before i j e p =
       let x = exit a s k in

@@ -17,14 +17,14 @@ use Rattle.sheet.specs.Returned.{refused}
 use Rattle.sheet.specs.Scan.{verdictOf}
 use Rattle.sheet.proofs.Acceptance.{tracks-append, walls-append}
 use Rattle.judge.specs.Judged.{aloneOf, worstOf}
-use Rattle.reader.specs.Walk.{Before, ofKind}
+use Rattle.reader.specs.Walk.{SoFar, ofKind}
 use Rattle.judge.proofs.Parts.{table-by-parts}
 use Rattle.reader.proofs.Turns.{verdictFrom, from-add, some-width}
 use Rattle.reader.proofs.Walking.{walk-more}
 
 -- ---- the command at a place
 
-module _ {s : List ℕ} {at tracks walls : ℕ} {before : List Command} (h : Before s at tracks walls before) (c : Command) where
+module _ {s : List ℕ} {at tracks walls : ℕ} {before : List Command} (h : SoFar s at tracks walls before) (c : Command) where
   many : tooMany before c ≡ leb 256 (ofKind c tracks walls)
   many = go c
     where
@@ -52,7 +52,7 @@ module _ {s : List ℕ} {at tracks walls : ℕ} {before : List Command} (h : Bef
 
 pub record Scanned (s : List ℕ) (at tracks walls : ℕ) : Type 0 where
   pub before : List Command
-  pub counts : Before s at tracks walls before
+  pub counts : SoFar s at tracks walls before
   pub on : verdictFrom s at before ≡ verdictOf s
   pub few : tracks + walls ≤ at
 

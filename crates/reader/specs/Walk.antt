@@ -19,7 +19,7 @@ Walk s p q [] = p ≡ q
 Walk s p q (c ∷ l) = (itemAt s p ≡ Add c) × Walk s (p + width c) q l
 
 -- these commands stand before a place, so many of each kind
-pub record Before (s : List ℕ) (at tracks walls : ℕ) (before : List Command) : Type 0 where
+pub record SoFar (s : List ℕ) (at tracks walls : ℕ) (before : List Command) : Type 0 where
   pub walk : Walk s 0 at before
   pub tracks-are : tracks ≡ length (tracksOf before)
   pub walls-are : walls ≡ length (wallsOf before)

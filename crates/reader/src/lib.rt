@@ -14,7 +14,7 @@ ghost use Rattle.sheet.specs.Returned.{verdict, accepted, refused};
 ghost use Rattle.sheet.specs.Scan.{verdictOf, commandsOf};
 ghost use Rattle.sheet.specs.HandedIn.{sheetOf};
 ghost use Rattle.judge.specs.Judged.{worstOf};
-ghost use Rattle.reader.specs.Walk.{WholeAt, Walk, Before, ofKind};
+ghost use Rattle.reader.specs.Walk.{WholeAt, Walk, SoFar, ofKind};
 ghost use Rattle.reader.specs.Reading.{ReadFrom};
 use sheet::Command;
 use sheet::Item;
@@ -128,8 +128,8 @@ fn of_kind(c: Command, tracks: usize, walls: usize) -> usize
 
 // The number of the first line of the table that the command at a place breaks, 0 if none.
 fn judge_at(s: &[u8], at: usize, tracks: usize, walls: usize, c: Command) -> u8
-    requires { ⌜ ((before : List Command) × Before (now s) at tracks walls before) ⌝ }
-    ensures { λ r. ⌜ ((before : List Command) → Before (now (s .entry)) at tracks walls before → r ≡ firstBroken table before c) ⌝ }
+    requires { ⌜ ((before : List Command) × SoFar (now s) at tracks walls before) ⌝ }
+    ensures { λ r. ⌜ ((before : List Command) → SoFar (now (s .entry)) at tracks walls before → r ≡ firstBroken table before c) ⌝ }
 {
     if 256 <= of_kind(c, tracks, walls) {
         return 7;
