@@ -1,0 +1,149 @@
+-- `archive`: what specs/Archive.antt says holds of every accepted sheet.
+use mathlib.Core.Path.{_≡_, refl, sym, ap, _∙_, subst}
+use mathlib.Core.List.{List, [], _∷_, Permᴰ·symm}
+use Prim.Native.Nat.{ℕ, suc, pred, _+_, _*_, _≤_, _<_}
+use native.Mathlib.Omega.{arith}
+use lib.ListN.{length, take, length-append}
+use lib.Seq.{take-append-seam}
+use Rattle.exact.specs.Lowest.{Lowest}
+use Rattle.exact.specs.Time.{_≈ᵗ_}
+use Rattle.exact.proofs.LowestTerms.{lowest-unique}
+use Rattle.layout.specs.Bytes.{AllBytes}
+use Rattle.sheet.specs.declared.Command.{Command}
+use Rattle.sheet.specs.declared.Command.the-variants.{AddTrack, AddWall}
+use Rattle.sheet.specs.declared.Sheet.{Sheet}
+use Rattle.sheet.specs.Accepted.{Accepted}
+use Rattle.sheet.specs.Format.{encodeAll}
+use Rattle.sheet.specs.HandedIn.{handedIn, checkOf, sheetOf}
+use Rattle.sheet.specs.Listing.{Listing, listing, _∈_, tracksOf, wallsOf}
+use Rattle.sheet.specs.Ordered.{ordered, commandsIn, orderedForm}
+use Rattle.sheet.specs.Returned.{Returned, accepted, gives}
+use Rattle.sheet.specs.Scan.{verdictOf, commandsOf}
+use Rattle.sheet.proofs.Decoded.{accepted-bytes, accepted-fits}
+use Rattle.sheet.proofs.Format.{encode-length}
+use Rattle.sheet.proofs.Lent.{said-given, put}
+use Rattle.sheet.proofs.Lists.{perm-mem, perm-length}
+use Rattle.sheet.proofs.Order.{Reordered, accepted-reordered}
+use Rattle.sheet.proofs.RoundTrip.{Fit, accepted-records, listed, ordered-same, handed-back, same-sheet}
+use Rattle.reader.specs.declared.Reading.{Reading}
+use Rattle.reader.specs.Reading.{ifAccepted, ReadFrom}
+use Rattle.writer.specs.declared.Written.{Written}
+use Rattle.writer.specs.Written.{written, formOf}
+use Rattle.rule.specs.declared.Row.{Row}
+use Rattle.rule.specs.Rows.{time}
+use Rattle.rule.specs.Selection.{rollOf}
+use Rattle.rule.proofs.Existence.{roll-of}
+use Rattle.promises.specs.Archive.{Writes, SameRecords, Again, Archive}
+use Rattle.promises.specs.Runs.{InRoll}
+use Rattle.promises.proofs.Runs.{in-roll}
+use Rattle.promises.proofs.Sheets.{of-bytes, fit-listing, checks}
+
+-- ---- the length of a sheet
+
+size : (l : List Command) → length (encodeAll l) ≡ 9 * length (tracksOf l) + 11 * length (wallsOf l) + 1
+unfolding encodeAll tracksOf wallsOf
+size [] = refl
+size (AddTrack a ∷ l) = simp length-append (omega (arith, encode-length (AddTrack a), size l))
+size (AddWall w ∷ l) = simp length-append (omega (arith, encode-length (AddWall w), size l))
+
+listed-size : (S : Listing) → length (encodeAll (commandsIn S)) ≡ 9 * length (S .tracks) + 11 * length (S .walls) + 1
+listed-size S = size (commandsIn S) ∙ ap (λ (T : Listing). 9 * length (T .tracks) + 11 * length (T .walls) + 1) (listed S)
+
+-- ---- one reading, one writing
+
+-- what a reading of an accepted sheet has
+read-as : (s : List ℕ) (T : Listing) → verdictOf s ≡ accepted → listing (commandsOf s) ≡ T → (q : Reading) → ReadFrom s q → q .sheet ≡ sheetOf T
+read-as s T e l q h = h .records ∙ ap (λ (v : Returned). sheetOf (ifAccepted v (listing (commandsOf s)))) e ∙ ap sheetOf l
+
+-- what a writing of it leaves
+wrote :
+    (T : Listing) → Fit T → Accepted T → (sheet : Sheet) → sheet ≡ sheetOf T → {before exit : List ℕ} {w : Written} → Writes sheet before exit w → length (orderedForm T) ≤ length before
+    → (written w ≡ gives (length (orderedForm T))) × (take (length (orderedForm T)) exit ≡ orderedForm T)
+wrote T f acc sheet e {before} {exit} {w} h room =
+    let g : formOf sheet ≡ orderedForm T = ap formOf e ∙ ap orderedForm (handed-back T) in
+    let F = formOf sheet in
+    let k : length F ≤ length before = rw g room in
+    let ok : checkOf sheet ≡ accepted = ap checkOf e ∙ checks T f acc in
+    let t = said-given (length F) (length before) (length F) ok k in
+    (rw g at (h .answer ∙ t), rw g at (ap (take (length F)) (h .buffer ∙ put F before t) ∙ take-append-seam F _))
+
+-- ---- the same sheet
+
+flip : {S S′ : Listing} → Reordered S S′ → Reordered S′ S
+flip p = record { tracks = Permᴰ·symm (p .tracks); walls = Permᴰ·symm (p .walls) }
+
+fit-reordered : {S S′ : Listing} → Reordered S S′ → Fit S′ → Fit S
+fit-reordered p f = record { tracks = λ a m. f .tracks a (perm-mem (p .tracks) a m); walls = λ w m. f .walls w (perm-mem (p .walls) w m) }
+
+same-records : {S S′ : Listing} {a b : Sheet} → a ≡ sheetOf S → b ≡ sheetOf S′ → Reordered S S′ → SameRecords a b
+same-records {S} {S′} {a} {b} e f p =
+    let x : S ≡ handedIn a = sym (ap handedIn e ∙ handed-back S) in
+    let y : S′ ≡ handedIn b = sym (ap handedIn f ∙ handed-back S′) in
+    let q = subst (λ (T : Listing). Reordered T (handedIn b)) x (subst (λ (T : Listing). Reordered S T) y p) in
+    record { tracks = q .tracks; walls = q .walls }
+
+module _ (s : List ℕ) (b : AllBytes s) (e : verdictOf s ≡ accepted) where
+  abbrev S : Listing
+  S = listing (commandsOf s)
+
+  fits : Fit S
+  fits = fit-listing (commandsOf s) (accepted-fits s b e)
+
+  acc : Accepted S
+  acc = accepted-records s b e
+
+  as-long : length (orderedForm S) ≡ length s
+  as-long =
+      let p = ordered-same S in
+      omega (arith, listed-size (ordered S), perm-length (p .tracks), perm-length (p .walls), size (commandsOf s), ap length (accepted-bytes s b e))
+
+  -- of what was read once, written, and read again
+  module _ (r : Reading) (h : ReadFrom s r) where
+    first : r .sheet ≡ sheetOf S
+    first = read-as s S e refl r h
+
+    once : {before exit : List ℕ} {w : Written} → Writes (r .sheet) before exit w → length s ≤ length before → (written w ≡ gives (length s)) × (take (length s) exit ≡ orderedForm S)
+    once c k = rw as-long at (wrote S fits acc (r .sheet) first c (rw as-long k))
+
+    module _ (q : Reading) (k : ReadFrom (orderedForm S) q) where
+      second : q .sheet ≡ sheetOf (ordered S)
+      second = let t = same-sheet s b e .again in read-as (orderedForm S) (ordered S) (t .verdict) (t .records) q k
+
+      twice : {before exit : List ℕ} {w : Written} → Writes (q .sheet) before exit w → length s ≤ length before → take (length s) exit ≡ orderedForm S
+      twice c m =
+          let p = ordered-same S in
+          let t = same-sheet s b e .bytes in
+          rw (t, as-long) at (wrote (ordered S) (fit-reordered p fits) (accepted-reordered (flip p) acc) (q .sheet) second c (rw (t, as-long) m) .1)
+
+    is-again : Again (length s) (r .sheet) (orderedForm S)
+    is-again =
+        record {
+          accepts = λ q k. k .judged ∙ same-sheet s b e .again .verdict;
+          same = λ q k. same-records first (second q k) (flip (ordered-same S));
+          still = λ q k c m. twice q k c m;
+        }
+
+-- ---- the times
+
+module _ (s : List ℕ) (b : AllBytes s) (e : verdictOf s ≡ accepted) where
+  in-lowest : (r : Row) → InRoll (commandsOf s) r → (0 < r .den) × Lowest (r .num) (r .den)
+  in-lowest r h =
+      let m = of-bytes (λ l. InRoll l r → r ∈ rollOf (listing l)) (λ l fit ok. in-roll l fit ok r) s b e h in
+      let R = roll-of (listing (commandsOf s)) (accepted-records s b e) .meets in
+      let (a, i, o) = R .is-set .no-other r m in
+      (R .is-set .den-pos r m, R .by-rule r a m i o .lowest)
+
+one-fraction : (r q : Row) → (0 < r .den) × Lowest (r .num) (r .den) → (0 < q .den) × Lowest (q .num) (q .den) → time r ≈ᵗ time q → (r .num ≡ q .num) × (r .den ≡ q .den)
+one-fraction r q (d, l) (d′, l′) h =
+    let x : suc (pred (r .den)) ≡ r .den = omega arith in
+    let y : suc (pred (q .den)) ≡ q .den = omega arith in
+    lowest-unique (r .num) (r .den) (q .num) (q .den) l l′ d d′ (rw (x, y) at (h .eq))
+
+pub archive : (s : List ℕ) → AllBytes s → verdictOf s ≡ accepted → Archive s
+archive s b e =
+    record {
+      as-long = λ r h c k. once s b e r h c k .0;
+      again = λ r h c k. subst (Again (length s) (r .sheet)) (sym (once s b e r h c k .1)) (is-again s b e r h);
+      lowest = in-lowest s b e;
+      one-fraction = λ t d f r q h k. one-fraction r q (in-lowest s b e r h) (in-lowest t d f q k);
+    }

@@ -1,0 +1,50 @@
+-- What the mapping section relies on. It draws the end points, and each trace ends on the wall or the trace that its row names.
+-- Proved as `mapping` in proofs/Mapping.antt.
+use mathlib.Core.Path.{_≡_}
+use mathlib.Core.Logic.{_≢_}
+use mathlib.Core.List.{List}
+use Prim.Native.Nat.{ℕ}
+use Rattle.exact.specs.Time.{Time, _≤ᵗ_, _<ᵗ_, _≈ᵗ_}
+use Rattle.sheet.specs.declared.Command.{Command}
+use Rattle.sheet.specs.declared.Track.{Track}
+use Rattle.sheet.specs.declared.Wall.{Wall}
+use Rattle.sheet.specs.Listing.{_∈_, tracksOf, wallsOf}
+use Rattle.sheet.specs.Returned.{Returned, gives}
+use Rattle.rule.specs.declared.Row.{Row}
+use Rattle.rule.specs.declared.Ending.{Ending}
+use Rattle.rule.specs.declared.Ending.the-variants.{ByTrack, Meeting, ByWall, Edge}
+use Rattle.rule.specs.Motion.{X, Y, Same, OnWall, LastInside}
+use Rattle.rule.specs.Rows.{time, Floor64}
+use Rattle.promises.specs.Runs.{Run, rows, Room, Reads, InRoll}
+
+-- the time in tip b's own row is as P says
+abbrev pub OwnTime : List Command → Track → (Time → Type 0) → Type 0
+OwnTime l b P = (q : Row) → InRoll l q → q .id ≡ b .id → P (time q)
+
+-- the exact point of tip a at time t is on what the ending names
+pub data Lands (l : List Command) (a : Track) (t : Time) : Ending → Type 0 where
+  -- kind 1: on that trace, where its tip had been before, at its own end at the latest
+  on-trace : (b : Track) (s : Time) → b ∈ tracksOf l → b .id ≢ a .id → Same a t b s → s <ᵗ t → OwnTime l b (λ e. s ≤ᵗ e) → Lands l a t (ByTrack (b .id))
+  -- kind 2: where that tip is too, and its own row has the same time
+  together : (b : Track) → b ∈ tracksOf l → b .id ≢ a .id → Same a t b t → OwnTime l b (λ e. e ≈ᵗ t) → Lands l a t (Meeting (b .id))
+  -- kind 3: on that wall, between its ends or at one of them
+  on-wall : (w : Wall) → w ∈ wallsOf l → OnWall a t w → Lands l a t (ByWall (w .id))
+  -- kind 4: at the last moment inside the sheet
+  at-edge : LastInside a t → Lands l a t Edge
+
+-- a row's own tip, at the row's time, is there; the row's point is that point in 64ths, rounded down
+pub record EndPoint (l : List Command) (r : Row) : Type 0 where
+  pub tip : Track
+  pub on-sheet : tip ∈ tracksOf l
+  pub own : r .id ≡ tip .id
+  pub lands : Lands l tip (time r) (r .ending)
+  pub x-rounded : Floor64 (X tip (time r)) (r .den) (r .x)
+  pub y-rounded : Floor64 (Y tip (time r)) (r .den) (r .y)
+
+pub record Mapping (l : List Command) : Type 0 where
+  -- with room for them a run writes as many rows as there are tracks
+  pub as-many : {before exit : List ℕ} {x : Returned} → Run l before exit x → Room l before → x ≡ gives (rows l)
+  -- one of them for each track
+  pub each-track : {before exit : List ℕ} {x : Returned} → Run l before exit x → Room l before → (a : Track) → a ∈ tracksOf l → (r : Row) × Reads exit (rows l) r × (r .id ≡ a .id)
+  -- and each row that a run wrote ends its track where it says
+  pub each-row : (r : Row) → InRoll l r → EndPoint l r
