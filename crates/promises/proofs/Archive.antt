@@ -15,28 +15,27 @@ use Rattle.sheet.specs.declared.Sheet.{Sheet}
 use Rattle.sheet.specs.Accepted.{Accepted}
 use Rattle.sheet.specs.Format.{encodeAll}
 use Rattle.sheet.specs.HandedIn.{handedIn, checkOf, sheetOf}
-use Rattle.sheet.specs.Listing.{Listing, listing, _∈_, tracksOf, wallsOf}
+use Rattle.sheet.specs.Listing.{Listing, listing, tracksOf, wallsOf}
 use Rattle.sheet.specs.Ordered.{ordered, commandsIn, orderedForm}
 use Rattle.sheet.specs.Returned.{Returned, accepted, gives}
 use Rattle.sheet.specs.Scan.{verdictOf, commandsOf}
-use Rattle.sheet.proofs.Decoded.{accepted-bytes, accepted-fits}
+use Rattle.sheet.proofs.Decoded.{accepted-bytes}
 use Rattle.sheet.proofs.Format.{encode-length}
 use Rattle.sheet.proofs.Lent.{said-given, put}
-use Rattle.sheet.proofs.Lists.{perm-mem, perm-length}
+use Rattle.sheet.proofs.Lists.{perm-length}
 use Rattle.sheet.proofs.Order.{Reordered, accepted-reordered}
-use Rattle.sheet.proofs.RoundTrip.{Fit, accepted-records, listed, ordered-same, handed-back, same-sheet}
+use Rattle.sheet.proofs.RoundTrip.{accepted-records, listed, ordered-same, handed-back, same-sheet}
 use Rattle.reader.specs.declared.Reading.{Reading}
 use Rattle.reader.specs.Reading.{ifAccepted, ReadFrom}
 use Rattle.writer.specs.declared.Written.{Written}
 use Rattle.writer.specs.Written.{written, formOf}
 use Rattle.rule.specs.declared.Row.{Row}
 use Rattle.rule.specs.Rows.{time}
-use Rattle.rule.specs.Selection.{rollOf}
 use Rattle.rule.proofs.Existence.{roll-of}
 use Rattle.promises.specs.Archive.{Writes, SameRecords, Again, Archive}
 use Rattle.promises.specs.Runs.{InRoll}
 use Rattle.promises.proofs.Runs.{in-roll}
-use Rattle.promises.proofs.Sheets.{of-bytes, fit-listing, checks}
+use Rattle.promises.proofs.Sheets.{checks}
 
 -- ---- the length of a sheet
 
@@ -57,13 +56,13 @@ read-as s T e l q h = h .records ∙ ap (λ (v : Returned). sheetOf (ifAccepted 
 
 -- what a writing of it leaves
 wrote :
-    (T : Listing) → Fit T → Accepted T → (sheet : Sheet) → sheet ≡ sheetOf T → {before exit : List ℕ} {w : Written} → Writes sheet before exit w → length (orderedForm T) ≤ length before
+    (T : Listing) → Accepted T → (sheet : Sheet) → sheet ≡ sheetOf T → {before exit : List ℕ} {w : Written} → Writes sheet before exit w → length (orderedForm T) ≤ length before
     → (written w ≡ gives (length (orderedForm T))) × (take (length (orderedForm T)) exit ≡ orderedForm T)
-wrote T f acc sheet e {before} {exit} {w} h room =
+wrote T acc sheet e {before} {exit} {w} h room =
     let g : formOf sheet ≡ orderedForm T = ap formOf e ∙ ap orderedForm (handed-back T) in
     let F = formOf sheet in
     let k : length F ≤ length before = rw g room in
-    let ok : checkOf sheet ≡ accepted = ap checkOf e ∙ checks T f acc in
+    let ok : checkOf sheet ≡ accepted = ap checkOf e ∙ checks T acc in
     let t = said-given (length F) (length before) (length F) ok k in
     (rw g at (h .answer ∙ t), rw g at (ap (take (length F)) (h .buffer ∙ put F before t) ∙ take-append-seam F _))
 
@@ -71,9 +70,6 @@ wrote T f acc sheet e {before} {exit} {w} h room =
 
 flip : {S S′ : Listing} → Reordered S S′ → Reordered S′ S
 flip p = record { tracks = Permᴰ·symm (p .tracks); walls = Permᴰ·symm (p .walls) }
-
-fit-reordered : {S S′ : Listing} → Reordered S S′ → Fit S′ → Fit S
-fit-reordered p f = record { tracks = λ a m. f .tracks a (perm-mem (p .tracks) a m); walls = λ w m. f .walls w (perm-mem (p .walls) w m) }
 
 same-records : {S S′ : Listing} {a b : Sheet} → a ≡ sheetOf S → b ≡ sheetOf S′ → Reordered S S′ → SameRecords a b
 same-records {S} {S′} {a} {b} e f p =
@@ -85,9 +81,6 @@ same-records {S} {S′} {a} {b} e f p =
 module _ (s : List ℕ) (b : AllBytes s) (e : verdictOf s ≡ accepted) where
   abbrev S : Listing
   S = listing (commandsOf s)
-
-  fits : Fit S
-  fits = fit-listing (commandsOf s) (accepted-fits s b e)
 
   acc : Accepted S
   acc = accepted-records s b e
@@ -103,7 +96,7 @@ module _ (s : List ℕ) (b : AllBytes s) (e : verdictOf s ≡ accepted) where
     first = read-as s S e refl r h
 
     once : {before exit : List ℕ} {w : Written} → Writes (r .sheet) before exit w → length s ≤ length before → (written w ≡ gives (length s)) × (take (length s) exit ≡ orderedForm S)
-    once c k = rw as-long at (wrote S fits acc (r .sheet) first c (rw as-long k))
+    once c k = rw as-long at (wrote S acc (r .sheet) first c (rw as-long k))
 
     module _ (q : Reading) (k : ReadFrom (orderedForm S) q) where
       second : q .sheet ≡ sheetOf (ordered S)
@@ -113,25 +106,24 @@ module _ (s : List ℕ) (b : AllBytes s) (e : verdictOf s ≡ accepted) where
       twice c m =
           let p = ordered-same S in
           let t = same-sheet s b e .bytes in
-          rw (t, as-long) at (wrote (ordered S) (fit-reordered p fits) (accepted-reordered (flip p) acc) (q .sheet) second c (rw (t, as-long) m) .1)
+          rw (t, as-long) at (wrote (ordered S) (accepted-reordered (flip p) acc) (q .sheet) second c (rw (t, as-long) m) .1)
 
-    is-again : Again (length s) (r .sheet) (orderedForm S)
+    is-again : Again (r .sheet) (orderedForm S)
     is-again =
         record {
           accepts = λ q k. k .judged ∙ same-sheet s b e .again .verdict;
           same = λ q k. same-records first (second q k) (flip (ordered-same S));
-          still = λ q k c m. twice q k c m;
+          still = λ q k c m. rw as-long (twice q k c (rw as-long at m));
         }
 
 -- ---- the times
 
-module _ (s : List ℕ) (b : AllBytes s) (e : verdictOf s ≡ accepted) where
-  in-lowest : (r : Row) → InRoll (commandsOf s) r → (0 < r .den) × Lowest (r .num) (r .den)
-  in-lowest r h =
-      let m = of-bytes (λ l. InRoll l r → r ∈ rollOf (listing l)) (λ l fit ok. in-roll l fit ok r) s b e h in
-      let R = roll-of (listing (commandsOf s)) (accepted-records s b e) .meets in
-      let (a, i, o) = R .is-set .no-other r m in
-      (R .is-set .den-pos r m, R .by-rule r a m i o .lowest)
+in-lowest : (l : List Command) → Accepted (listing l) → (r : Row) → InRoll l r → (0 < r .den) × Lowest (r .num) (r .den)
+in-lowest l acc r h =
+    let m = in-roll l acc r h in
+    let R = roll-of (listing l) acc .meets in
+    let (a, i, o) = R .is-set .no-other r m in
+    (R .is-set .den-pos r m, R .by-rule r a m i o .lowest)
 
 one-fraction : (r q : Row) → (0 < r .den) × Lowest (r .num) (r .den) → (0 < q .den) × Lowest (q .num) (q .den) → time r ≈ᵗ time q → (r .num ≡ q .num) × (r .den ≡ q .den)
 one-fraction r q (d, l) (d′, l′) h =
@@ -141,9 +133,10 @@ one-fraction r q (d, l) (d′, l′) h =
 
 pub archive : (s : List ℕ) → AllBytes s → verdictOf s ≡ accepted → Archive s
 archive s b e =
+    let lowest = in-lowest (commandsOf s) (acc s b e) in
     record {
       as-long = λ r h c k. once s b e r h c k .0;
-      again = λ r h c k. subst (Again (length s) (r .sheet)) (sym (once s b e r h c k .1)) (is-again s b e r h);
-      lowest = in-lowest s b e;
-      one-fraction = λ t d f r q h k. one-fraction r q (in-lowest s b e r h) (in-lowest t d f q k);
+      again = λ r h c k. subst (Again (r .sheet)) (sym (once s b e r h c k .1)) (is-again s b e r h);
+      lowest = lowest;
+      one-fraction = λ l acc r q h k. one-fraction r q (lowest r h) (in-lowest l acc q k);
     }

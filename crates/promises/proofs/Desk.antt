@@ -14,7 +14,7 @@ use Rattle.sheet.specs.HandedIn.{handedIn, checkOf, sheetOf}
 use Rattle.sheet.specs.Lent.{andThen}
 use Rattle.sheet.specs.Listing.{Listing, listing}
 use Rattle.sheet.specs.Returned.{Returned, accepted, gives, refused, verdict}
-use Rattle.sheet.specs.Scan.{verdictOf, commandsOf}
+use Rattle.sheet.specs.Scan.{commandsOf}
 use Rattle.sheet.proofs.Lent.{said-given, said-short}
 use Rattle.sheet.proofs.Lists.{perm-mem}
 use Rattle.sheet.proofs.Order.{Reordered, reordered, accepted-reordered}
@@ -36,8 +36,7 @@ use Rattle.session.proofs.Parts.{take-min}
 use Rattle.session.proofs.Steps.{Steps, handed, advanced, not-advanced, reset, so-far}
 use Rattle.promises.specs.Desk as keys
 use Rattle.promises.specs.Desk.{Key, Opened, over-bytes, over-records, adds, Pressed, cursor, View, SameView, Desk}
-use Rattle.promises.proofs.Runs.{acc}
-use Rattle.promises.proofs.Sheets.{OfAll, fit-listing, checks}
+use Rattle.promises.proofs.Sheets.{commands-fit, scanned, checks}
 
 -- ---- what an answer adds to the screen
 
@@ -63,7 +62,7 @@ module _ (m n room : ℕ) (ks : List Key) where
   unfolding cursor
   stays e = ap (λ (b : Bool). cond b (cursor m ks + more) (cursor m ks)) e
 
-module _ (l : List Command) (fit : AllFit l) (ok : verdictOf (encodeAll l) ≡ accepted) where
+module _ (l : List Command) (acc : Accepted (listing l)) where
   abbrev S : Listing
   S = listing l
 
@@ -87,18 +86,18 @@ module _ (l : List Command) (fit : AllFit l) (ok : verdictOf (encodeAll l) ≡ a
   begin : (r : Begun) → Opened l r → Begin r
   unfolding cursor
   begin r (over-bytes k p h) =
-      let v = order-verdict p fit ok in
-      let f : AllFit k = λ c i. fit c (perm-mem (Permᴰ·symm p) c i) in
+      let v = order-verdict p (commands-fit l acc) (scanned l acc) in
+      let f : AllFit k = λ c i. commands-fit l acc c (perm-mem (Permᴰ·symm p) c i) in
       let T = listing k in
       let q : recordsOf (encodeAll k) ≡ T = ap (λ (x : Returned). ifAccepted x (listing (commandsOf (encodeAll k)))) v ∙ ap listing (read-back f) in
-      let c = checks T (fit-listing k f) (accepted-reordered (reordered p) (acc l fit ok)) in
+      let c = checks T (accepted-reordered (reordered p) acc) in
       let b : Begins (checkOf (sheetOf T)) (begun (sheetOf T)) r = record { answer = h .answer ∙ v ∙ sym c; session = h .session ∙ ap (λ (U : Listing). begun (sheetOf U)) q } in
       record {
         answer = h .answer ∙ v;
         reached = record { T = T; same = reordered p; asked = 0; steps = handed (sheetOf T) r b (h .answer ∙ v) (handed-back T); place = omega arith };
       }
   begin r (over-records sheet p h) =
-      let v = order-verdict p fit ok in
+      let v = order-verdict p (commands-fit l acc) (scanned l acc) in
       let q = subst (λ (U : Listing). Reordered S U) (listed (handedIn sheet)) (reordered p) in
       record {
         answer = h .answer ∙ v;
@@ -112,10 +111,10 @@ module _ (l : List Command) (fit : AllFit l) (ok : verdictOf (encodeAll l) ≡ a
     accepts = so-far (p .steps) .ok
 
     one-roll : rollIn s ≡ rollOf S
-    one-roll = ap rollOf (so-far (p .steps) .of-sheet) ∙ sym (roll-order (p .same) (acc l fit ok))
+    one-roll = ap rollOf (so-far (p .steps) .of-sheet) ∙ sym (roll-order (p .same) acc)
 
     at : s .shown ≡ cursor m ks
-    at = so-far (p .steps) .cursor ∙ ap (λ (R : List Row). min (p .asked) (length R)) (sym (roll-order (p .same) (acc l fit ok))) ∙ p .place
+    at = so-far (p .steps) .cursor ∙ ap (λ (R : List Row). min (p .asked) (length R)) (sym (roll-order (p .same) acc)) ∙ p .place
 
     rows-left : rowsLeft s ≡ drop (cursor m ks) (rollOf S)
     rows-left = ap₂ (λ (j : ℕ) (R : List Row). drop j R) at one-roll
@@ -127,7 +126,7 @@ module _ (l : List Command) (fit : AllFit l) (ok : verdictOf (encodeAll l) ≡ a
     unfolding andThen
     is-view =
         let R = rollOf S in
-        let e = roll-order (p .same) (acc l fit ok) in
+        let e = roll-order (p .same) acc in
         record {
           shown = so-far (p .steps) .bytes ∙ ap (λ (Q : List Row). rollBytes (take (p .asked) Q)) (sym e) ∙ ap rollBytes (sym (take-min (p .asked) R)) ∙ ap (λ (j : ℕ). rollBytes (take j R)) (p .place);
           next = ap (take 1) rows-left;
@@ -195,13 +194,13 @@ module _ (l : List Command) (fit : AllFit l) (ok : verdictOf (encodeAll l) ≡ a
       let e : cursor m (keys.advance (s .shown) room ∷ []) ≡ cursor m ks = omega (arith, at x, x .place, moves m (s .shown) room [] (omega arith)) in
       same-view (view p) (subst (λ (c : ℕ). View (rollOf S) c s′ screen′) e (view q))
 
-pub desk : OfAll Desk
-desk l fit ok =
+pub desk : (l : List Command) → Accepted (listing l) → Desk l
+desk l acc =
     record {
       roll = rollOf (listing l);
-      is-roll = roll-of (listing l) (acc l fit ok);
-      opens = λ r o. begin l fit ok r o .answer;
-      view = view l fit ok;
-      same = λ p q. same-view l fit ok (view l fit ok p) (view l fit ok q);
-      refreshed = refresh l fit ok;
+      is-roll = roll-of (listing l) acc;
+      opens = λ r o. begin l acc r o .answer;
+      view = view l acc;
+      same = λ p q. same-view l acc (view l acc p) (view l acc q);
+      refreshed = refresh l acc;
     }

@@ -5,11 +5,8 @@ use Prim.Native.Nat.{ℕ}
 use Rattle.exact.specs.Time.{Time, _≤ᵗ_, _≈ᵗ_}
 use Rattle.sheet.specs.declared.Command.{Command}
 use Rattle.sheet.specs.declared.Track.{Track}
-use Rattle.sheet.specs.Format.{encodeAll}
+use Rattle.sheet.specs.Accepted.{Accepted}
 use Rattle.sheet.specs.Listing.{Listing, listing, _∈_, tracksOf}
-use Rattle.sheet.specs.Returned.{accepted}
-use Rattle.sheet.specs.Scan.{verdictOf}
-use Rattle.sheet.proofs.RoundTrip.{AllFit}
 use Rattle.rule.specs.declared.Row.{Row}
 use Rattle.rule.specs.declared.Ending.{Ending}
 use Rattle.rule.specs.declared.Ending.the-variants.{ByTrack, Meeting, ByWall, Edge}
@@ -25,10 +22,9 @@ use Rattle.rule.proofs.OneRoll.{timeOf-row, meets}
 use Rattle.rule.proofs.SameTime.{same-at}
 use Rattle.promises.specs.Mapping.{Lands, on-trace, together, on-wall, at-edge, EndPoint, Mapping}
 use Rattle.promises.specs.Runs.{InRoll}
-use Rattle.promises.proofs.Runs.{acc, left, reads, in-roll}
-use Rattle.promises.proofs.Sheets.{OfAll, of-bytes, of-records}
+use Rattle.promises.proofs.Runs.{left, reads, in-roll}
 
-module _ (l : List Command) (fit : AllFit l) (ok : verdictOf (encodeAll l) ≡ accepted) where
+module _ (l : List Command) (acc : Accepted (listing l)) where
   abbrev S : Listing
   S = listing l
 
@@ -36,7 +32,7 @@ module _ (l : List Command) (fit : AllFit l) (ok : verdictOf (encodeAll l) ≡ a
   T = timeOf (rollOf S)
 
   the-roll : RollOf S (rollOf S)
-  the-roll = roll-of S (acc l fit ok)
+  the-roll = roll-of S acc
 
   -- the time in a tip's own row is when it ends
   own-time : (q : Row) → q ∈ rollOf S → (b : Track) → q .id ≡ b .id → T (b .id) ≡ time q
@@ -55,28 +51,28 @@ module _ (l : List Command) (fit : AllFit l) (ok : verdictOf (encodeAll l) ≡ a
         let k = f .blocks in
         subst (λ (n : ℕ). Lands l a (time r) (ByTrack n)) (f .named)
         (on-trace (f .tip) (f .when) (k .on-sheet) (k .other) (k .there) h
-        (λ o j d. subst (λ (t : Time). f .when ≤ᵗ t) (own-time o (in-roll l fit ok o j) (f .tip) d) (k .running)))
+        (λ o j d. subst (λ (t : Time). f .when ≤ᵗ t) (own-time o (in-roll l acc o j) (f .tip) d) (k .running)))
     lands (Meeting q) (f, h) =
         let k = f .blocks in
         subst (λ (n : ℕ). Lands l a (time r) (Meeting n)) (f .named)
         (together (f .tip) (k .on-sheet) (k .other) (same-sym (same-at h (same-sym (k .there))))
-        (λ o j d. subst (λ (t : Time). t ≈ᵗ time r) (own-time o (in-roll l fit ok o j) (f .tip) d) (with-partner k h)))
+        (λ o j d. subst (λ (t : Time). t ≈ᵗ time r) (own-time o (in-roll l acc o j) (f .tip) d) (with-partner k h)))
     lands (ByWall q) (n, f) = subst (λ (n : ℕ). Lands l a (time r) (ByWall n)) (f .named) (on-wall (f .which) (f .on-sheet) (f .on-wall))
     lands Edge (n, w, h) = at-edge h
 
   ends : (r : Row) → InRoll l r → EndPoint l r
   ends r h =
-      let m = in-roll l fit ok r h in
+      let m = in-roll l acc r h in
       let (a, i, e) = the-roll .meets .is-set .no-other r m in
       let k = the-roll .meets .by-rule r a m i e in
       record { tip = a; on-sheet = i; own = e; lands = lands r m a i e (r .ending) (k .cause); x-rounded = k .floor-x; y-rounded = k .floor-y }
 
-pub mapping : OfAll Mapping
-mapping l fit ok =
+pub mapping : (l : List Command) → Accepted (listing l) → Mapping l
+mapping l acc =
     record {
-      as-many = λ c h. left l fit ok c h .0;
+      as-many = λ c h. left l acc c h .0;
       each-track = λ {before} {exit} c h a i.
-          let (r, m, e) = the-roll l fit ok .meets .is-set .each a i in
-          (r, reads l fit ok exit _ (left l fit ok c h .1) r m, e);
-      each-row = ends l fit ok;
+          let (r, m, e) = the-roll l acc .meets .is-set .each a i in
+          (r, reads l acc exit _ (left l acc c h .1) r m, e);
+      each-row = ends l acc;
     }

@@ -2,16 +2,17 @@
 use mathlib.Core.Path.{sym, _∙_}
 use mathlib.Core.List.{List}
 use Rattle.sheet.specs.declared.Command.{Command}
-use Rattle.sheet.proofs.RoundTrip.{AllFit}
+use Rattle.sheet.specs.Accepted.{Accepted}
+use Rattle.sheet.specs.Listing.{listing}
 use Rattle.grid_run.proofs.Demand.{demand}
 use Rattle.promises.specs.Partners.{Partners}
 use Rattle.promises.proofs.Runs.{left, front}
-use Rattle.promises.proofs.Sheets.{OfAll, of-bytes, of-records}
+use Rattle.promises.proofs.Sheets.{commands-fit, scanned}
 
-pub partners : OfAll Partners
-partners l fit ok =
+pub partners : (l : List Command) → Accepted (listing l) → Partners l
+partners l acc =
     record {
-      demand = demand l fit ok;
-      same-answer = λ c d h k. left l fit ok c h .0 ∙ sym (left l fit ok d k .0);
-      same-rows = λ c d h k. front l fit ok c h ∙ sym (front l fit ok d k);
+      demand = demand l (commands-fit l acc) (scanned l acc);
+      same-answer = λ c d h k. left l acc c h .0 ∙ sym (left l acc d k .0);
+      same-rows = λ c d h k. front l acc c h ∙ sym (front l acc d k);
     }

@@ -8,16 +8,14 @@ use lib.ListN.{length, take, drop, getD}
 use lib.Seq.{take-at}
 use Rattle.sheet.specs.declared.Command.{Command}
 use Rattle.sheet.specs.Accepted.{Accepted}
-use Rattle.sheet.specs.Format.{encodeAll}
 use Rattle.sheet.specs.HandedIn.{handedIn}
-use Rattle.sheet.specs.Lent.{andThen, orShort, after}
+use Rattle.sheet.specs.Lent.{andThen, after}
 use Rattle.sheet.specs.Listing.{Listing, listing, _∈_}
 use Rattle.sheet.specs.Returned.{Returned, accepted, gives}
-use Rattle.sheet.specs.Scan.{verdictOf}
 use Rattle.sheet.proofs.Lent.{Ends, said-given, put, gave}
 use Rattle.sheet.proofs.Lists.{mem-at, at-mem, perm-mem, perm-length}
 use Rattle.sheet.proofs.Order.{Reordered, reordered}
-use Rattle.sheet.proofs.RoundTrip.{AllFit, accepted-exactly, order-verdict, read-back, listed}
+use Rattle.sheet.proofs.RoundTrip.{order-verdict, read-back, listed}
 use Rattle.rule.specs.declared.Row.{Row}
 use Rattle.rule.specs.declared.Ending.the-variants.{Edge}
 use Rattle.rule.specs.RowBytes.{rollBytes}
@@ -33,27 +31,25 @@ use Rattle.grid_run.specs.Demand.{Given, in-bytes, in-records}
 use Rattle.stored.specs.declared.Stored.the-variants.{Found}
 use Rattle.stored.specs.Stored.{rowIn}
 use Rattle.stored.proofs.ReadBack.{row-back}
-use Rattle.promises.specs.Runs.{Run, plain, grid, rows, Room, Reads, InRoll}
+use Rattle.promises.specs.Runs.{Run, plain, grid, rowCount, Room, Reads, InRoll}
+use Rattle.promises.proofs.Sheets.{commands-fit, scanned}
 
 blank : Row
 blank = record { id = 0; num = 0; den = 1; x = 0; y = 0; ending = Edge }
 
-module _ (l : List Command) (fit : AllFit l) (ok : verdictOf (encodeAll l) ≡ accepted) where
+module _ (l : List Command) (acc : Accepted (listing l)) where
   abbrev S : Listing
   S = listing l
-
-  pub acc : Accepted S
-  acc = accepted-exactly fit .0 ok
 
   -- ---- in whatever order the sheet is given
 
   pub given-accepted : {v : Returned} {T : Listing} → Given l v T → v ≡ accepted
-  given-accepted (in-bytes k p) = order-verdict p fit ok
-  given-accepted (in-records s p) = order-verdict p fit ok
+  given-accepted (in-bytes k p) = order-verdict p (commands-fit l acc) (scanned l acc)
+  given-accepted (in-records s p) = order-verdict p (commands-fit l acc) (scanned l acc)
 
   pub given-records : {v : Returned} {T : Listing} → Given l v T → Reordered S T
   given-records (in-bytes k p) =
-      subst (λ (z : List Command). Reordered S (listing z)) (sym (read-back {l = k} (λ c m. fit c (perm-mem (Permᴰ·symm p) c m)))) (reordered p)
+      subst (λ (z : List Command). Reordered S (listing z)) (sym (read-back {l = k} (λ c m. commands-fit l acc c (perm-mem (Permᴰ·symm p) c m)))) (reordered p)
   given-records (in-records s p) = subst (λ (z : Listing). Reordered S z) (listed (handedIn s)) (reordered p)
 
   -- ---- what a run leaves
@@ -75,32 +71,32 @@ module _ (l : List Command) (fit : AllFit l) (ok : verdictOf (encodeAll l) ≡ a
   ran {before} {exit} (grid {g = g} r i f h) =
       as-listed before exit _ (ap (λ (v : Returned). andThen v (figureCheck g)) (given-accepted i) ∙ figure-checked g (figure-is f)) (given-records i) (h .answer) (h .buffer)
 
-  pub left : {before exit : List ℕ} {x : Returned} → Run l before exit x → Room l before → (x ≡ gives (rows l)) × (exit ≡ rollBytes (rollOf S) ++ drop (length (rollBytes (rollOf S))) before)
+  pub left : {before exit : List ℕ} {x : Returned} → Run l before exit x → Room l before → (x ≡ gives (rowCount l)) × (exit ≡ rollBytes (rollOf S) ++ drop (length (rollBytes (rollOf S))) before)
   left {before} c h =
       let (p, q) = ran c in
-      let t = said-given {v = accepted} (29 * rows l) (length before) (rows l) refl h in
+      let t = said-given {v = accepted} (29 * rowCount l) (length before) (rowCount l) refl h in
       (p ∙ t, q ∙ put (rollBytes (rollOf S)) before t)
 
-  pub front : {before exit : List ℕ} {x : Returned} → Run l before exit x → Room l before → take (29 * rows l) exit ≡ rollBytes (rollOf S)
+  pub front : {before exit : List ℕ} {x : Returned} → Run l before exit x → Room l before → take (29 * rowCount l) exit ≡ rollBytes (rollOf S)
   front c h =
       let e = roll-bytes-length (rollOf S) ∙ ap (λ (n : ℕ). 29 * n) (roll-length S acc) in
-      ap (take (29 * rows l)) (left c h .1) ∙ take-at (rollBytes (rollOf S)) _ (29 * rows l) e
+      ap (take (29 * rowCount l)) (left c h .1) ∙ take-at (rollBytes (rollOf S)) _ (29 * rowCount l) e
 
   -- ---- rows read back
 
   module _ (bytes rest : List ℕ) (e : bytes ≡ rollBytes (rollOf S) ++ rest) where
-    at-place : (k : ℕ) → k < rows l → rowIn bytes k ≡ Found (getD (rollOf S) k blank)
+    at-place : (k : ℕ) → k < rowCount l → rowIn bytes k ≡ Found (getD (rollOf S) k blank)
     at-place k h =
         let i : k < length (rollOf S) = omega (arith, roll-length S acc) in
         ap (λ (b : List ℕ). rowIn b k) e ∙ row-back (rollOf S) rest k blank i (roll-fits S acc (getD (rollOf S) k blank) (mem-at blank (rollOf S) k i))
 
-    pub reads : (r : Row) → r ∈ rollOf S → Reads bytes (rows l) r
+    pub reads : (r : Row) → r ∈ rollOf S → Reads bytes (rowCount l) r
     reads r m =
         let (k, h, q) = at-mem blank (rollOf S) r m in
-        let i : k < rows l = omega (arith, roll-length S acc) in
+        let i : k < rowCount l = omega (arith, roll-length S acc) in
         record { place = k; below = i; found = at-place k i ∙ ap Found q }
 
-    read-in : (r : Row) → Reads bytes (rows l) r → r ∈ rollOf S
+    read-in : (r : Row) → Reads bytes (rowCount l) r → r ∈ rollOf S
     read-in r h =
         let k = h .place in
         let i : k < length (rollOf S) = omega (arith, h .below, roll-length S acc) in
@@ -110,5 +106,5 @@ module _ (l : List Command) (fit : AllFit l) (ok : verdictOf (encodeAll l) ≡ a
 
   pub in-roll : (r : Row) → InRoll l r → r ∈ rollOf S
   in-roll r h =
-      let g = gave {v = accepted} (29 * rows l) (length (h .before)) (rows l) tt (ran (h .ran) .0) in
+      let g = gave {v = accepted} (29 * rowCount l) (length (h .before)) (rowCount l) tt (ran (h .ran) .0) in
       read-in (h .exit) _ (left (h .ran) (g .room) .1) r (subst (λ (n : ℕ). Reads (h .exit) n r) (g .count) (h .reads))

@@ -6,11 +6,13 @@ use Prim.Native.Nat.{ℕ, _≤_, _<_}
 use lib.ListN.{length, take}
 use Rattle.exact.specs.Lowest.{Lowest}
 use Rattle.exact.specs.Time.{_≈ᵗ_}
-use Rattle.layout.specs.Bytes.{AllBytes}
+use Rattle.sheet.specs.declared.Command.{Command}
 use Rattle.sheet.specs.declared.Sheet.{Sheet}
+use Rattle.sheet.specs.Accepted.{Accepted}
 use Rattle.sheet.specs.HandedIn.{handedIn}
+use Rattle.sheet.specs.Listing.{listing}
 use Rattle.sheet.specs.Returned.{accepted, gives, verdict}
-use Rattle.sheet.specs.Scan.{verdictOf, commandsOf}
+use Rattle.sheet.specs.Scan.{commandsOf}
 use Rattle.reader.specs.declared.Reading.{Reading}
 use Rattle.reader.specs.Reading.{ReadFrom}
 use Rattle.writer.specs.declared.Written.{Written}
@@ -29,21 +31,29 @@ pub record SameRecords (a b : Sheet) : Type 0 where
   pub tracks : List·Permᴰ (handedIn a .tracks) (handedIn b .tracks)
   pub walls : List·Permᴰ (handedIn a .walls) (handedIn b .walls)
 
--- a sheet of n bytes that was read, and written to the bytes `file`
-pub record Again (n : ℕ) (sheet : Sheet) (file : List ℕ) : Type 0 where
+-- a sheet that was read, and written to the bytes `file`
+pub record Again (sheet : Sheet) (file : List ℕ) : Type 0 where
   -- what is written is accepted when it is read
   pub accepts : (q : Reading) → ReadFrom file q → verdict (q .verdict) ≡ accepted
   -- it has the records that were read first
   pub same : (q : Reading) → ReadFrom file q → SameRecords sheet (q .sheet)
   -- and written once more it gives the same bytes
-  pub still : (q : Reading) → ReadFrom file q → {before exit : List ℕ} {w : Written} → Writes (q .sheet) before exit w → n ≤ length before → take n exit ≡ file
+  pub still :
+      (q : Reading) {before exit : List ℕ} {w : Written} → ReadFrom file q → Writes (q .sheet) before exit w → length file ≤ length before
+      → take (length file) exit ≡ file
 
 pub record Archive (s : List ℕ) : Type 0 where
   -- a sheet that was read can be written, in as many bytes
-  pub as-long : (r : Reading) → ReadFrom s r → {before exit : List ℕ} {w : Written} → Writes (r .sheet) before exit w → length s ≤ length before → written w ≡ gives (length s)
+  pub as-long :
+      (r : Reading) {before exit : List ℕ} {w : Written} → ReadFrom s r → Writes (r .sheet) before exit w → length s ≤ length before
+      → written w ≡ gives (length s)
   -- and that is the same sheet
-  pub again : (r : Reading) → ReadFrom s r → {before exit : List ℕ} {w : Written} → Writes (r .sheet) before exit w → length s ≤ length before → Again (length s) (r .sheet) (take (length s) exit)
+  pub again :
+      (r : Reading) {before exit : List ℕ} {w : Written} → ReadFrom s r → Writes (r .sheet) before exit w → length s ≤ length before
+      → Again (r .sheet) (take (length s) exit)
   -- the time in each row of the sheet is a fraction in lowest terms
   pub lowest : (r : Row) → InRoll (commandsOf s) r → (0 < r .den) × Lowest (r .num) (r .den)
-  -- and whenever it is the time in a row of any sheet, it is the same fraction there
-  pub one-fraction : (t : List ℕ) → AllBytes t → verdictOf t ≡ accepted → (r q : Row) → InRoll (commandsOf s) r → InRoll (commandsOf t) q → time r ≈ᵗ time q → (r .num ≡ q .num) × (r .den ≡ q .den)
+  -- and the same time in a row of any other sheet is the same fraction
+  pub one-fraction :
+      (l : List Command) → Accepted (listing l) → (r q : Row) → InRoll (commandsOf s) r → InRoll l q → time r ≈ᵗ time q
+      → (r .num ≡ q .num) × (r .den ≡ q .den)

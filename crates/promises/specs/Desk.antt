@@ -45,8 +45,12 @@ adds (Refused number place) exit = []
 -- the session and the screen after some keys, the last key first; each call meets its contract. A reset clears the screen
 pub data Pressed (l : List Command) : List Key → Session → List ℕ → Type 0 where
   opened : (r : Begun) → Opened l r → Pressed l [] (r .session) []
-  advanced : {keys : List Key} {s : Session} {screen : List ℕ} (n : ℕ) (before exit : List ℕ) (r : Advanced) → Pressed l keys s screen → Advances s n before exit r → Pressed l (advance n (length before) ∷ keys) (r .session) (screen ++ adds (r .answer) exit)
-  restarted : {keys : List Key} {s : Session} {screen : List ℕ} (r : Begun) → Pressed l keys s screen → Begins (checkOf (s .sheet)) (restart (checkOf (s .sheet)) s) r → Pressed l (reset ∷ keys) (r .session) []
+  advanced :
+      {keys : List Key} {s : Session} {screen : List ℕ} (n : ℕ) (before exit : List ℕ) (r : Advanced) → Pressed l keys s screen → Advances s n before exit r
+      → Pressed l (advance n (length before) ∷ keys) (r .session) (screen ++ adds (r .answer) exit)
+  restarted :
+      {keys : List Key} {s : Session} {screen : List ℕ} (r : Begun) → Pressed l keys s screen → Begins (checkOf (s .sheet)) (restart (checkOf (s .sheet)) s) r
+      → Pressed l (reset ∷ keys) (r .session) []
 
 -- ---- where the cursor stands
 
@@ -83,6 +87,10 @@ pub record Desk (l : List Command) : Type 0 where
   -- after any keys the desk sees what the keys alone say
   pub view : {keys : List Key} {s : Session} {screen : List ℕ} → Pressed l keys s screen → View roll (cursor (length roll) keys) s screen
   -- so after the same keys two orders of the commands look the same
-  pub same : {keys : List Key} {s s′ : Session} {screen screen′ : List ℕ} → Pressed l keys s screen → Pressed l keys s′ screen′ → SameView s s′ screen screen′
+  pub same :
+      {keys : List Key} {s s′ : Session} {screen screen′ : List ℕ} → Pressed l keys s screen → Pressed l keys s′ screen′
+      → SameView s s′ screen screen′
   -- and so does a refresh: opened anew, and advanced by as many rows as had been shown
-  pub refreshed : {keys : List Key} {room : ℕ} {s s′ : Session} {screen screen′ : List ℕ} → Pressed l keys s screen → Pressed l (advance (s .shown) room ∷ []) s′ screen′ → 29 * s .shown ≤ room → SameView s s′ screen screen′
+  pub refreshed :
+      {keys : List Key} {room : ℕ} {s s′ : Session} {screen screen′ : List ℕ} → Pressed l keys s screen → Pressed l (advance (s .shown) room ∷ []) s′ screen′ → 29 * s .shown ≤ room
+      → SameView s s′ screen screen′

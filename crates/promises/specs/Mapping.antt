@@ -15,7 +15,7 @@ use Rattle.rule.specs.declared.Ending.{Ending}
 use Rattle.rule.specs.declared.Ending.the-variants.{ByTrack, Meeting, ByWall, Edge}
 use Rattle.rule.specs.Motion.{X, Y, Same, OnWall, LastInside}
 use Rattle.rule.specs.Rows.{time, Floor64}
-use Rattle.promises.specs.Runs.{Run, rows, Room, Reads, InRoll}
+use Rattle.promises.specs.Runs.{Run, rowCount, Room, Reads, InRoll}
 
 -- the time in tip b's own row is as P says
 abbrev pub OwnTime : List Command → Track → (Time → Type 0) → Type 0
@@ -24,7 +24,9 @@ OwnTime l b P = (q : Row) → InRoll l q → q .id ≡ b .id → P (time q)
 -- the exact point of tip a at time t is on what the ending names
 pub data Lands (l : List Command) (a : Track) (t : Time) : Ending → Type 0 where
   -- kind 1: on that trace, where its tip had been before, at its own end at the latest
-  on-trace : (b : Track) (s : Time) → b ∈ tracksOf l → b .id ≢ a .id → Same a t b s → s <ᵗ t → OwnTime l b (λ e. s ≤ᵗ e) → Lands l a t (ByTrack (b .id))
+  on-trace :
+      (b : Track) (s : Time) → b ∈ tracksOf l → b .id ≢ a .id → Same a t b s → s <ᵗ t → OwnTime l b (λ e. s ≤ᵗ e)
+      → Lands l a t (ByTrack (b .id))
   -- kind 2: where that tip is too, and its own row has the same time
   together : (b : Track) → b ∈ tracksOf l → b .id ≢ a .id → Same a t b t → OwnTime l b (λ e. e ≈ᵗ t) → Lands l a t (Meeting (b .id))
   -- kind 3: on that wall, between its ends or at one of them
@@ -43,8 +45,10 @@ pub record EndPoint (l : List Command) (r : Row) : Type 0 where
 
 pub record Mapping (l : List Command) : Type 0 where
   -- with room for them a run writes as many rows as there are tracks
-  pub as-many : {before exit : List ℕ} {x : Returned} → Run l before exit x → Room l before → x ≡ gives (rows l)
+  pub as-many : {before exit : List ℕ} {x : Returned} → Run l before exit x → Room l before → x ≡ gives (rowCount l)
   -- one of them for each track
-  pub each-track : {before exit : List ℕ} {x : Returned} → Run l before exit x → Room l before → (a : Track) → a ∈ tracksOf l → (r : Row) × Reads exit (rows l) r × (r .id ≡ a .id)
+  pub each-track :
+      {before exit : List ℕ} {x : Returned} → Run l before exit x → Room l before → (a : Track) → a ∈ tracksOf l
+      → (r : Row) × Reads exit (rowCount l) r × (r .id ≡ a .id)
   -- and each row that a run wrote ends its track where it says
   pub each-row : (r : Row) → InRoll l r → EndPoint l r

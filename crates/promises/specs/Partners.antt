@@ -7,12 +7,16 @@ use lib.ListN.{take}
 use Rattle.sheet.specs.declared.Command.{Command}
 use Rattle.sheet.specs.Returned.{Returned}
 use Rattle.grid_run.specs.Demand.{Demand3}
-use Rattle.promises.specs.Runs.{Run, rows, Room}
+use Rattle.promises.specs.Runs.{Run, rowCount, Room}
 
 pub record Partners (l : List Command) : Type 0 where
   -- demand 3 in full: the one roll, that it is the rule's, what each run returns in every order and at every figure, and the cells entered
   pub demand : Demand3 l
   -- two observatories, each with its own order, its own run and its own figure, are given the same answer
-  pub same-answer : {before exit before′ exit′ : List ℕ} {x x′ : Returned} → Run l before exit x → Run l before′ exit′ x′ → Room l before → Room l before′ → x ≡ x′
+  pub same-answer :
+      {before exit before′ exit′ : List ℕ} {x x′ : Returned} → Run l before exit x → Run l before′ exit′ x′ → Room l before → Room l before′
+      → x ≡ x′
   -- and the same rows, byte for byte
-  pub same-rows : {before exit before′ exit′ : List ℕ} {x x′ : Returned} → Run l before exit x → Run l before′ exit′ x′ → Room l before → Room l before′ → take (29 * rows l) exit ≡ take (29 * rows l) exit′
+  pub same-rows :
+      {before exit before′ exit′ : List ℕ} {x x′ : Returned} → Run l before exit x → Run l before′ exit′ x′ → Room l before → Room l before′
+      → take (29 * rowCount l) exit ≡ take (29 * rowCount l) exit′

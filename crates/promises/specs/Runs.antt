@@ -23,12 +23,12 @@ pub data Run (l : List Command) (before exit : List ℕ) : Returned → Type 0 w
   grid : {v : Returned} {S : Listing} {g : ℕ} (r : GridRolled) → Given l v S → Figure g → GridRolls v S g before exit r → Run l before exit (gridRolled r)
 
 -- a row for each track
-abbrev pub rows : List Command → ℕ
-rows l = length (tracksOf l)
+abbrev pub rowCount : List Command → ℕ
+rowCount l = length (tracksOf l)
 
--- the lent buffer has room for them
+-- a lent buffer has room for them
 abbrev pub Room : List Command → List ℕ → Type 0
-Room l before = 29 * rows l ≤ length before
+Room l before = 29 * rowCount l ≤ length before
 
 -- row_at finds r at one of the first n places of these bytes
 pub record Reads (bytes : List ℕ) (n : ℕ) (r : Row) : Type 0 where
