@@ -1,4 +1,4 @@
--- `archive`: what specs/Archive.antt says holds of every accepted sheet.
+-- `archive`: what specs/Archive.antt says holds of the bytes of every accepted sheet.
 use mathlib.Core.Path.{_≡_, refl, sym, ap, _∙_, subst}
 use mathlib.Core.List.{List, [], _∷_, Permᴰ·symm}
 use Prim.Native.Nat.{ℕ, suc, pred, _+_, _*_, _≤_, _<_}

@@ -1,4 +1,4 @@
--- `desk`: what specs/Desk.antt says holds of every accepted sheet.
+-- `desk`: what specs/Desk.antt says holds of every accepted sheet; of one in bytes and of records handed in by `of-bytes` and `of-records` in Sheets.antt.
 use mathlib.Core.Path.{_≡_, refl, sym, ap, ap₂, _∙_, subst}
 use mathlib.Core.Bool.{Bool, true, false, cond}
 use mathlib.Core.List.{List, [], _∷_, _++_, append-nil, Permᴰ·symm}
@@ -31,7 +31,7 @@ use Rattle.plain_run.specs.Rolled.{rolled}
 use Rattle.session.specs.declared.Session.{Session}
 use Rattle.session.specs.declared.Begun.{Begun}
 use Rattle.session.specs.declared.Advanced.{Advanced}
-use Rattle.session.specs.Stepping.{rollIn, rowsLeft, nextRows, begun, Begins, Advances, runningOf}
+use Rattle.session.specs.Stepping.{rollIn, rowsLeft, nextRows, begun, Begins, Advances}
 use Rattle.session.proofs.Parts.{take-min}
 use Rattle.session.proofs.Steps.{Steps, handed, advanced, not-advanced, reset, so-far}
 use Rattle.promises.specs.Desk as keys

@@ -1,7 +1,7 @@
--- every accepted sheet, and what its runs leave
+-- accepted sheets, and what their runs leave
 pub mod Sheets
 pub mod Runs
--- what each reader relies on, in the order of specs/
+-- what each reader relies on
 pub mod Desk
 pub mod Mapping
 pub mod Partners

@@ -1,4 +1,4 @@
--- `mapping`: what specs/Mapping.antt says holds of every accepted sheet.
+-- `mapping`: what specs/Mapping.antt says holds of every accepted sheet; of one in bytes and of records handed in by `of-bytes` and `of-records` in Sheets.antt.
 use mathlib.Core.Path.{_≡_, sym, ap, _∙_, subst}
 use mathlib.Core.List.{List}
 use Prim.Native.Nat.{ℕ}
@@ -10,7 +10,6 @@ use Rattle.sheet.specs.Listing.{Listing, listing, _∈_, tracksOf}
 use Rattle.rule.specs.declared.Row.{Row}
 use Rattle.rule.specs.declared.Ending.{Ending}
 use Rattle.rule.specs.declared.Ending.the-variants.{ByTrack, Meeting, ByWall, Edge}
-use Rattle.rule.specs.Motion.{Same}
 use Rattle.rule.specs.Roll.{RollOf}
 use Rattle.rule.specs.Rule.{Blocks}
 use Rattle.rule.specs.Rows.{time, timeOf, Cause}

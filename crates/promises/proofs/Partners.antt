@@ -1,4 +1,4 @@
--- `partners`: what specs/Partners.antt says holds of every accepted sheet.
+-- `partners`: what specs/Partners.antt says holds of every accepted sheet; of one in bytes and of records handed in by `of-bytes` and `of-records` in Sheets.antt.
 use mathlib.Core.Path.{sym, _∙_}
 use mathlib.Core.List.{List}
 use Rattle.sheet.specs.declared.Command.{Command}

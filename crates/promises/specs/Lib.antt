@@ -1,7 +1,7 @@
--- the calls that the statements speak of
-pub mod Runs
--- what each reader relies on
+-- what each reader relies on, as statements about the calls
 pub mod Desk
+-- the runs and the rows that they leave, of which the other three speak
+pub mod Runs
 pub mod Mapping
 pub mod Partners
 pub mod Archive

@@ -1,5 +1,5 @@
 -- What partner observatories rely on. They list the tips in their own order and choose their own figure, and neither shows in a row.
--- Proved as `partners` in proofs/Partners.antt.
+-- Proved of every accepted sheet as `partners` in proofs/Partners.antt.
 use mathlib.Core.Path.{_≡_}
 use mathlib.Core.List.{List}
 use Prim.Native.Nat.{ℕ, _*_}
