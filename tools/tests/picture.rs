@@ -7,6 +7,12 @@ use sheet_tools::{cells, roll, sheet, trace};
 
 const SVG: &str = env!("CARGO_BIN_EXE_sheet-svg");
 
+/// The options of the stored picture of the example corner, as in the script `pictures`.
+const CORNER: &str = "--grid|8|--view|128|128|1920|896\
+    |--note|768|768|1 has one point here:|--note|768|730|the corner\
+    |--note|1280|768|2 has no point here\
+    |--note|620|528|(512, 512)|--note|1410|528|(1536, 512)";
+
 /// The picture of an example under some options.
 fn picture(name: &str, options: &[&str]) -> Result<String, String> {
     picture_with(name, name, options)
@@ -63,6 +69,15 @@ fn view_leaves_out_what_it_does_not_show() {
     let svg = picture("F", &["--view", "0", "0", "200", "300"]).unwrap();
     assert!(svg.contains("viewBox=\"-21.421875 -321.421875 242.84375 342.84375\""));
     assert!(svg.contains(">1</text>") && !svg.contains(">2</text>") && !svg.contains(">w1</text>"));
+}
+
+#[test]
+fn notes_stand_in_the_view() {
+    let note =
+        |x: &str| picture("A", &["--view", "0", "0", "300", "300", "--note", x, "90", "a <b & c"]);
+    let words = ">a &lt;b &amp; c</text>";
+    assert!(note("90").unwrap().contains(words) && !note("900").unwrap().contains(words));
+    assert!(note("-1").unwrap_err().contains("usage"));
 }
 
 #[test]
@@ -126,9 +141,8 @@ fn ids_stand_apart() {
 fn stored_pictures_are_the_drawn_ones() {
     let stored = |name: &str| std::fs::read_to_string(path(&format!("docs/pictures/{name}.svg")));
     for name in NAMES {
-        let near = ["--grid", "8", "--view", "128", "128", "1920", "896"];
-        let options = if name == "corner" { &near[..] } else { &[] };
-        assert_eq!(stored(name).unwrap(), picture(name, options).unwrap(), "{name}");
+        let options = if name == "corner" { CORNER.split('|').collect() } else { vec![] };
+        assert_eq!(stored(name).unwrap(), picture(name, &options).unwrap(), "{name}");
     }
     for name in ["A", "C", "F", "G", "H2"] {
         let near = picture(name, &["--view", "0", "0", "400", "300"]).unwrap();
