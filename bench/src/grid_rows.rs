@@ -1,4 +1,4 @@
-//! The grid run against the plain run and against the same algorithm in Rust, at the six figures: each call less the scan of the bytes.
+//! The grid run compared with the plain run and with the same algorithm in Rust, at the six figures: each call less the scan of the bytes.
 
 use crate::sheets::Timed;
 use crate::table::{self, head, row};
@@ -69,7 +69,7 @@ impl Measured<'_> {
     }
 }
 
-/// Both give the outside implementation's rows and cells.
+/// Both give the reference implementation's rows and cells.
 fn check(timed: &Timed) {
     let rows = roll(&timed.records);
     let bytes = roll_bytes(&rows);

@@ -11,12 +11,21 @@ use crate::view::{in_64ths, View};
 use std::collections::BTreeSet;
 
 /// What the picture shows besides the traces and walls.
-#[derive(Clone, Copy, Debug, Default)]
+#[derive(Clone, Debug, Default)]
 pub struct Options {
     /// The figure of the grid to draw.
     pub grid: Option<u16>,
     /// The part of the sheet to show, else all that is drawn.
     pub view: Option<View>,
+    pub notes: Vec<Note>,
+}
+
+/// Words in the drawing, their middle at a point of the sheet given in units.
+#[derive(Clone, Debug)]
+pub struct Note {
+    pub x: u16,
+    pub y: u16,
+    pub words: String,
 }
 
 /// The picture.
@@ -50,6 +59,7 @@ pub fn draw(commands: &[Command], traces: &[Trace], options: Options) -> String 
     svg += "</g>\n</svg>\n";
     svg += &format!("<rect width=\"{wide}\" height=\"{high}\" fill=\"none\" stroke=\"#ccc\"/>\n");
     svg += &ids::draw(&walls, traces, &view);
+    svg += &notes(&options.notes, &view);
     svg += &legend::draw(&wide, options.grid);
     svg + "</svg>\n"
 }
@@ -174,4 +184,19 @@ fn ending(trace: &Trace) -> String {
         _ => "the edge".to_string(),
     };
     format!("track {} ends at {}, time {}", row.id, cause, row.time.ratio())
+}
+
+/// The notes that stand within the view.
+fn notes(notes: &[Note], view: &View) -> String {
+    let mut text = String::new();
+    for Note { x, y, words } in notes {
+        let (x, y) = in_64ths(*x, *y);
+        if view.holds(x, y) {
+            let (across, down) = view.pixels(x, y);
+            let words = words.replace('&', "&amp;").replace('<', "&lt;");
+            let (x, y) = (across.pixels(), down.pixels());
+            text += &format!("<text x=\"{x}\" y=\"{y}\" text-anchor=\"middle\">{words}</text>\n");
+        }
+    }
+    text
 }

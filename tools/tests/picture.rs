@@ -7,6 +7,12 @@ use sheet_tools::{cells, roll, sheet, trace};
 
 const SVG: &str = env!("CARGO_BIN_EXE_sheet-svg");
 
+/// The options of the stored picture of the example corner, as in the script `pictures`.
+const CORNER: &str = "--grid|8|--view|128|128|1920|896\
+    |--note|768|768|1 has one point here:|--note|768|730|the corner\
+    |--note|1280|768|2 has no point here\
+    |--note|620|528|(512, 512)|--note|1410|528|(1536, 512)";
+
 /// The picture of an example under some options.
 fn picture(name: &str, options: &[&str]) -> Result<String, String> {
     picture_with(name, name, options)
@@ -66,6 +72,15 @@ fn view_leaves_out_what_it_does_not_show() {
 }
 
 #[test]
+fn notes_stand_in_the_view() {
+    let note =
+        |x: &str| picture("A", &["--view", "0", "0", "300", "300", "--note", x, "90", "a <b & c"]);
+    let words = ">a &lt;b &amp; c</text>";
+    assert!(note("90").unwrap().contains(words) && !note("900").unwrap().contains(words));
+    assert!(note("-1").unwrap_err().contains("usage"));
+}
+
+#[test]
 fn refused_and_foreign_rolls_are_errors() {
     let wrong = [
         (picture("facing", &[]), "roll refused the sheet: 11, place 9"),
@@ -119,14 +134,15 @@ fn ids_stand_apart() {
         ids.len()
     });
     // There is no room for half of D's ids with two digits, nor for F's wall between trace 1 and the edge.
-    assert_eq!(found, [2, 2, 2, 36, 4, 2, 2, 2, 2, 1, 1, 2, 0]);
+    assert_eq!(found, [2, 2, 2, 36, 4, 2, 2, 2, 2, 1, 1, 2, 0, 4]);
 }
 
 #[test]
 fn stored_pictures_are_the_drawn_ones() {
     let stored = |name: &str| std::fs::read_to_string(path(&format!("docs/pictures/{name}.svg")));
     for name in NAMES {
-        assert_eq!(stored(name).unwrap(), picture(name, &[]).unwrap(), "{name}");
+        let options = if name == "corner" { CORNER.split('|').collect() } else { vec![] };
+        assert_eq!(stored(name).unwrap(), picture(name, &options).unwrap(), "{name}");
     }
     for name in ["A", "C", "F", "G", "H2"] {
         let near = picture(name, &["--view", "0", "0", "400", "300"]).unwrap();

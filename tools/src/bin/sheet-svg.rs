@@ -1,12 +1,13 @@
 //! Draws a sheet with its roll, which is the output of the program `roll` for that sheet.
 
-use sheet_tools::picture::{draw, Options};
+use sheet_tools::picture::{draw, Note, Options};
 use sheet_tools::view::View;
 use sheet_tools::{cells, roll, sheet, trace};
 use std::io::{self, Write};
 use std::process::ExitCode;
 
-const USAGE: &str = "usage: sheet-svg [--grid G] [--view AX AY BX BY] SHEET ROLL > PICTURE";
+const USAGE: &str =
+    "usage: sheet-svg [--grid G] [--view AX AY BX BY] [--note X Y WORDS]… SHEET ROLL > PICTURE";
 
 fn main() -> ExitCode {
     match run() {
@@ -49,6 +50,11 @@ fn parse(arguments: &[String]) -> Result<(Options, [&str; 2]), String> {
                 let (Ok(ax), Ok(ay), Ok(bx), Ok(by)) = corners else { return Err(USAGE.into()) };
                 options.view = Some(View::between(ax, ay, bx, by));
                 5
+            }
+            ["--note", x, y, words, ..] => {
+                let (Ok(x), Ok(y)) = (x.parse(), y.parse()) else { return Err(USAGE.into()) };
+                options.notes.push(Note { x, y, words: words.into() });
+                4
             }
             [sheet, roll] => return Ok((options, [sheet, roll])),
             _ => return Err(USAGE.into()),
