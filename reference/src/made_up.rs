@@ -1,5 +1,8 @@
 //! Made-up sheets from a seed: accepted ones, nearly accepted ones, and damaged ones.
 
+pub mod handed_in;
+pub mod names;
+
 use crate::rng::Rng;
 use crate::sheet::{commands, listing, read, Command, Records, Track, Wall, MAX_COORDINATE};
 

@@ -59,7 +59,7 @@ impl Track {
         [1, id0, id1, x0, x1, y0, y1, vx, vy]
     }
 
-    fn from_operands(b: &[u8; Self::LENGTH - 1]) -> Self {
+    pub fn from_operands(b: &[u8; Self::LENGTH - 1]) -> Self {
         Track {
             id: u16::from_le_bytes([b[0], b[1]]),
             x: u16::from_le_bytes([b[2], b[3]]),
@@ -102,7 +102,7 @@ impl Wall {
         [2, id0, id1, ax0, ax1, ay0, ay1, bx0, bx1, by0, by1]
     }
 
-    fn from_operands(b: &[u8; Self::LENGTH - 1]) -> Self {
+    pub fn from_operands(b: &[u8; Self::LENGTH - 1]) -> Self {
         Wall {
             id: u16::from_le_bytes([b[0], b[1]]),
             ax: u16::from_le_bytes([b[2], b[3]]),
@@ -161,6 +161,19 @@ impl Command {
 }
 
 impl Records {
+    /// The records of the commands, whether or not a sheet may hold them.
+    pub fn of(commands: &[Command]) -> Self {
+        let mut records = Records::default();
+        for command in commands {
+            match *command {
+                Command::End => {}
+                Command::Track(track) => records.tracks.push(track),
+                Command::Wall(wall) => records.walls.push(wall),
+            }
+        }
+        records
+    }
+
     /// Takes the command in, or gives the first of 7, 4, 5, 6, 8, 9, 10, 11 that it breaks.
     pub fn admit(&mut self, command: Command) -> Result<(), u8> {
         match command {
@@ -223,6 +236,21 @@ pub fn read(bytes: &[u8]) -> Result<Records, Refusal> {
         return Err(Refusal { number: AFTER_END, place });
     }
     Ok(records)
+}
+
+/// The commands of a sheet, whether or not a sheet may hold them; none where they are not whole
+/// commands with one 00 behind them.
+pub fn whole_commands(bytes: &[u8]) -> Option<Vec<Command>> {
+    let mut commands = Vec::new();
+    let mut rest = bytes;
+    loop {
+        let command = Command::parse(rest).ok()?;
+        rest = &rest[command.length()..];
+        if command == Command::End {
+            return rest.is_empty().then_some(commands);
+        }
+        commands.push(command);
+    }
 }
 
 /// Handed-in records as commands, tracks before walls, without the final 00.

@@ -15,11 +15,11 @@ fn vectors(mode: &str, input: Stdio) -> Vec<u8> {
     run.stdout
 }
 
-/// The program's stdin holds the framed sheets, its stdout what `mode` prints of them.
+/// The program's stdin holds the framed questions, its stdout what `mode` prints of them.
 fn compare(program: &str, mode: &str) {
-    let sheets = stored(program, "stdin");
-    assert!(fs::read(&sheets).unwrap() == vectors("sheets", Stdio::null()), "{program}: stdin");
-    let input = File::open(&sheets).unwrap();
+    let frames = stored(program, "stdin");
+    assert!(fs::read(&frames).unwrap() == vectors("frames", Stdio::null()), "{program}: stdin");
+    let input = File::open(&frames).unwrap();
     let expected = fs::read(stored(program, "stdout")).unwrap();
     assert!(expected == vectors(mode, input.into()), "{program}: stdout");
 }

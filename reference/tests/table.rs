@@ -184,19 +184,6 @@ fn the_first_command_is_returned_whatever_its_number() {
     assert_eq!(refusal(&bytes), Some((11, 9)));
 }
 
-/// The records of a sheet's commands, whether or not a sheet may hold them.
-fn handed_in(commands: &[Command]) -> Records {
-    let mut records = Records::default();
-    for command in commands {
-        match *command {
-            Command::Track(track) => records.tracks.push(track),
-            Command::Wall(wall) => records.walls.push(wall),
-            Command::End => {}
-        }
-    }
-    records
-}
-
 #[test]
 fn handed_in_records_are_refused_as_the_sheet_that_lists_them() {
     let interleaved = [
@@ -206,7 +193,7 @@ fn handed_in_records_are_refused_as_the_sheet_that_lists_them() {
         wall(1, 7, 7, 7, 7),
     ];
     let tracks_first = [interleaved[1], interleaved[2], interleaved[0], interleaved[3]];
-    let records = handed_in(&interleaved);
+    let records = Records::of(&interleaved);
     let expected = Err(Refusal { number: 11, place: 9 });
     assert_eq!(check(&records.tracks, &records.walls), expected);
     assert_eq!(read(&listing(tracks_first)).map(|_| ()), expected);
@@ -216,7 +203,7 @@ fn handed_in_records_are_refused_as_the_sheet_that_lists_them() {
 #[test]
 fn handed_in_counts_above_256_are_7_whatever_they_hold() {
     let nonsense = Track { id: 0, x: 5000, y: 0, vx: 0, vy: 0 };
-    let mut records = handed_in(&[tracks(256), walls(256)].concat());
+    let mut records = Records::of(&[tracks(256), walls(256)].concat());
     assert_eq!(check(&records.tracks, &records.walls), Ok(()));
     records.walls.extend([Wall { id: 0, ax: 0, ay: 0, bx: 0, by: 0 }; 300]);
     let expected = Err(Refusal { number: 7, place: 256 * 20 });
@@ -241,7 +228,7 @@ fn output_too_short_is_12_and_nothing_is_written() {
 
 #[test]
 fn the_writer_refuses_the_sheet_before_the_output() {
-    let records = handed_in(&[track(1, 2, 3, 0, 0)]);
+    let records = Records::of(&[track(1, 2, 3, 0, 0)]);
     let refused = write(&records.tracks, &records.walls, &mut []);
     assert_eq!(refused, Err(Refusal { number: 5, place: 0 }));
 }

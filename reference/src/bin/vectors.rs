@@ -1,16 +1,20 @@
-//! Sheets and what is expected of them, for a program that is compared with this implementation.
+//! Questions and what is expected of them, for a program that is compared with this implementation.
 //!
-//! - `vectors sheets` writes framed sheets, and a histogram of their refusals to standard error.
-//! - `vectors expected` and `vectors cells` read such frames and print for each its refusal, or
-//!   what reader, writer and both runs give, and the cell listings.
+//! - `vectors frames` writes framed questions, and how many there are to standard error.
+//! - `vectors expected` reads such frames and prints the answers: of a sheet or of records handed
+//!   in the refusal, or what reader, writer and both runs give; of a lookup the name.
+//! - `vectors cells` reads such frames and prints for each sheet its refusal or the cell listings.
 //! - `vectors roll` reads one sheet without a frame and prints what program `roll` prints.
 
 #![forbid(unsafe_code)]
 
-use reference::cells::{self, Cell};
+use reference::cells::{self, Cell, FIGURES};
+use reference::frames::{self, Frame};
+use reference::handed_in::HandedIn;
+use reference::names::Lookup;
+use reference::refusal::Refusal;
 use reference::roll::{roll, roll_bytes};
 use reference::sheet::{ordered_form, read, Records};
-use reference::{chosen, frames, made_up};
 use std::collections::BTreeMap;
 use std::io::{self, BufWriter, Read, Write};
 use std::process::ExitCode;
@@ -18,48 +22,60 @@ use std::process::ExitCode;
 const SEED: u64 = 1;
 /// The figure of program `roll`, and of the cell listings.
 const FIGURE: u64 = 8;
-const USAGE: &str = "usage: vectors sheets | expected | cells | roll";
+const USAGE: &str = "usage: vectors frames | expected | cells | roll";
 
-/// How many sheets get each refusal; 0 stands for accepted.
-fn histogram(sheets: &[Vec<u8>]) -> BTreeMap<u8, usize> {
-    let mut counts = BTreeMap::new();
-    for sheet in sheets {
-        let number = read(sheet).err().map_or(0, |refusal| refusal.number);
-        *counts.entry(number).or_default() += 1;
-    }
-    counts
-}
-
-fn print_histogram(sheets: &[Vec<u8>]) {
-    let bytes: usize = sheets.iter().map(|sheet| 2 + sheet.len()).sum();
-    eprintln!("{} sheets, {bytes} bytes", sheets.len());
-    for (number, count) in histogram(sheets) {
-        match number {
-            0 => eprintln!("accepted {count}"),
-            _ => eprintln!("refused {number}: {count}"),
+/// What the question is, and its answer's kind.
+fn class(frame: &Frame) -> (&'static str, String) {
+    let verdict = |answer: Result<Records, Refusal>| match answer {
+        Ok(_) => "accepted".to_string(),
+        Err(refusal) => format!("refused {:2}", refusal.number),
+    };
+    match frame {
+        Frame::Sheet(sheet) => ("sheet", verdict(read(sheet))),
+        Frame::Records(handed_in) => ("records", verdict(handed_in.check())),
+        Frame::Lookup(lookup) => {
+            let answer = if lookup.name().is_empty() { "empty" } else { "name" };
+            ("lookup", answer.to_string())
         }
     }
 }
 
-fn write_sheets(out: &mut impl Write) -> io::Result<()> {
-    let sheets = [chosen::all(), made_up::all(SEED)].concat();
-    let sheets = made_up::with_other_orders(SEED, sheets);
-    for sheet in &sheets {
-        frames::write_frame(out, sheet)?;
+fn write_frames(out: &mut impl Write) -> io::Result<()> {
+    let mut counts: BTreeMap<_, usize> = BTreeMap::new();
+    for frame in frames::all(SEED) {
+        frames::write_frame(out, &frame)?;
+        *counts.entry(class(&frame)).or_default() += 1;
     }
-    print_histogram(&sheets);
+    for ((question, answer), count) in counts {
+        eprintln!("{question}, {answer}: {count}");
+    }
     Ok(())
 }
 
-/// Prints for each framed sheet its refusal or, if it is accepted, the lines for its records.
-fn print_lines(out: &mut impl Write, lines: fn(&Records) -> String) -> io::Result<()> {
-    for sheet in frames::read_frames(&mut io::stdin())? {
-        match read(&sheet) {
-            Err(refusal) => writeln!(out, "{refusal}")?,
-            Ok(records) => writeln!(out, "{}", lines(&records))?,
+fn print_expected(out: &mut impl Write) -> io::Result<()> {
+    for frame in frames::read_frames(&mut io::stdin())? {
+        let lines = match frame {
+            Frame::Sheet(sheet) => sheet_lines(&sheet, records_lines),
+            Frame::Records(handed_in) => handed_in_lines(&handed_in),
+            Frame::Lookup(lookup) => name_line(&lookup),
+        };
+        writeln!(out, "{lines}")?;
+    }
+    Ok(())
+}
+
+fn print_cells(out: &mut impl Write) -> io::Result<()> {
+    for frame in frames::read_frames(&mut io::stdin())? {
+        if let Frame::Sheet(sheet) = frame {
+            writeln!(out, "{}", sheet_lines(&sheet, cells_line))?;
         }
     }
     Ok(())
+}
+
+/// A sheet's refusal or, if it is accepted, the lines for its records.
+fn sheet_lines(sheet: &[u8], lines: fn(&Records) -> String) -> String {
+    read(sheet).map_or_else(|refusal| refusal.to_string(), |records| lines(&records))
 }
 
 fn hexadecimal(bytes: &[u8]) -> String {
@@ -68,13 +84,32 @@ fn hexadecimal(bytes: &[u8]) -> String {
 
 /// Numbers of tracks and walls and the ordered form; the roll's bytes; the cells entered at each
 /// of the six figures.
-fn expected_lines(records: &Records) -> String {
+fn records_lines(records: &Records) -> String {
     let Records { tracks, walls } = records;
     let form = hexadecimal(&ordered_form(tracks, walls));
     let rows = roll(records);
     let bytes = hexadecimal(&roll_bytes(&rows));
     let counts = cells::counts(records, &rows).map(|count| count.to_string()).join(" ");
     format!("{} {} {form}\nroll {bytes}\ncells {counts}", tracks.len(), walls.len())
+}
+
+/// What the check gives, then the writer and both runs: the plain run once, the grid run at each
+/// figure.
+fn handed_in_lines(handed_in: &HandedIn) -> String {
+    let HandedIn { ntracks, nwalls, .. } = handed_in;
+    match handed_in.check() {
+        Ok(records) => format!("accepted\n{}", records_lines(&records)),
+        Err(refusal) => {
+            let at_each = FIGURES.map(|_| refusal.to_string()).join(" ");
+            format!("{refusal}\n{ntracks} {nwalls} {refusal}\nroll {refusal}\ncells {at_each}")
+        }
+    }
+}
+
+/// The name's length and bytes.
+fn name_line(lookup: &Lookup) -> String {
+    let name = lookup.name();
+    format!("name {} {}", name.len(), hexadecimal(name))
 }
 
 /// Each cell with a point of a trace, as `column,row:id,id`; by columns, then rows, ids rising.
@@ -107,9 +142,9 @@ fn print_roll(out: &mut impl Write) -> io::Result<()> {
 fn main() -> ExitCode {
     let mut out = BufWriter::new(io::stdout().lock());
     let done = match std::env::args().nth(1).as_deref() {
-        Some("sheets") => write_sheets(&mut out),
-        Some("expected") => print_lines(&mut out, expected_lines),
-        Some("cells") => print_lines(&mut out, cells_line),
+        Some("frames") => write_frames(&mut out),
+        Some("expected") => print_expected(&mut out),
+        Some("cells") => print_cells(&mut out),
         Some("roll") => print_roll(&mut out),
         _ => Err(io::Error::other(USAGE)),
     };

@@ -5,7 +5,9 @@ pub mod document;
 pub mod endings;
 pub mod form;
 pub mod geometry;
+pub mod handed_in;
 pub mod limits;
+pub mod names;
 pub mod together;
 
 use crate::sheet::{Command, Track, Wall};

@@ -42,6 +42,9 @@ same-length c = search needs
 returns-3 : tie.Need-returns-3
 returns-3 c = search needs
 
+array-read-answer : tie.Need-array-read-answer
+array-read-answer c = search needs
+
 slice-reshare-prefix-answer : tie.Need-slice-reshare-prefix-answer
 slice-reshare-prefix-answer c = search needs
 
@@ -73,6 +76,7 @@ frame-spec =
     read-full-requires-2
     same-length
     returns-3
+    array-read-answer
     slice-reshare-prefix-answer
     slice-aggregate-answer
     answer-requires

@@ -3,8 +3,8 @@ use borrow.Author.Needs.{needs}
 use Prim.Native.Nat.{_-_}
 use mathlib.Core.Path.{_≡_}
 use lib.ListN.{length}
-use Rattle.vectors.proofs.same.Statement.{statement}
-use Rattle.vectors.proofs.same.Tie as tie
+use Rattle.vectors.proofs.answers.same.Statement.{statement}
+use Rattle.vectors.proofs.answers.same.Tie as tie
 
 abbrev Inv-loop : tie.InvT-loop
 Inv-loop a b i₀ i = length a ≡ length b

@@ -2,8 +2,8 @@
 use borrow.Author.Needs.{needs}
 use Prim.Native.Nat.{_-_}
 use lib.ListN.{length}
-use Rattle.vectors.proofs.print_hex.Statement.{statement}
-use Rattle.vectors.proofs.print_hex.Tie as tie
+use Rattle.vectors.proofs.answers.print_hex.Statement.{statement}
+use Rattle.vectors.proofs.answers.print_hex.Tie as tie
 
 abbrev Inv-loop : tie.InvT-loop
 Inv-loop s n i₀ i = Unit {0}

@@ -1,0 +1,68 @@
+-- `tracks_in` ends, and stores within the array.
+use borrow.Author.Needs.{needs}
+use Prim.Native.Nat.{_-_}
+use mathlib.Core.Path.{_≡_}
+use lib.ListN.{length}
+use Rattle.vectors.proofs.records.tracks_in.Statement.{statement}
+use Rattle.vectors.proofs.records.tracks_in.Tie as tie
+
+abbrev Inv-loop : tie.InvT-loop
+Inv-loop list tracks₀ i₀ tracks i = length tracks ≡ 256
+
+abbrev μ-loop : tie.MeasureT-loop
+μ-loop list tracks₀ i₀ tracks i = 256 - i
+
+loop-holds : tie.Need-loop-holds Inv-loop μ-loop
+loop-holds c = search needs
+
+mul-if1 : tie.Need-mul-if1 Inv-loop μ-loop
+mul-if1 c = search needs
+
+add-if1 : tie.Need-add-if1 Inv-loop μ-loop
+add-if1 c = search needs
+
+returns : tie.Need-returns Inv-loop μ-loop
+returns c = search needs
+
+mul-track-at : tie.Need-mul-track-at Inv-loop μ-loop
+mul-track-at c = search needs
+
+track-at-requires : tie.Need-track-at-requires Inv-loop μ-loop
+track-at-requires c κs = search needs
+
+mul-tracks : tie.Need-mul-tracks Inv-loop μ-loop
+mul-tracks c = search needs
+
+array-set-from-tracks : tie.Need-array-set-from-tracks Inv-loop μ-loop
+array-set-from-tracks c = search needs
+
+add-i : tie.Need-add-i Inv-loop μ-loop
+add-i c = search needs
+
+loop-less : tie.Need-loop-less Inv-loop μ-loop
+loop-less c = search needs
+
+loop-again : tie.Need-loop-again Inv-loop μ-loop
+loop-again c = search needs
+
+returns-2 : tie.Need-returns-2 Inv-loop μ-loop
+returns-2 c = search needs
+
+pub tracks-in-spec : {M : Type 1} → statement M
+tracks-in-spec =
+    tie.close
+    (tie.spec
+    Inv-loop
+    μ-loop
+    loop-holds
+    mul-if1
+    add-if1
+    returns
+    mul-track-at
+    track-at-requires
+    mul-tracks
+    array-set-from-tracks
+    add-i
+    loop-less
+    loop-again
+    returns-2)

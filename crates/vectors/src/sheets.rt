@@ -1,0 +1,49 @@
+// A sheet's bytes: `refused` with the table's two numbers, or three lines: the numbers of tracks and walls with the ordered form in
+// hexadecimal; the plain run's rows; the cells entered at each of the six figures.
+use crate::answers::print_cells;
+use crate::answers::print_form;
+use crate::answers::print_refusal;
+use crate::answers::print_rows;
+use crate::answers::print_text;
+use sheet::Verdict;
+
+fn grid_at(s: &[u8], g: u64, rows: &[u8]) {
+    let mut again = [0u8; 7424];
+    let answer = grid_run::grid_roll_bytes(s, g, &mut again);
+    print_cells(answer, &again, rows);
+}
+
+fn print_figures(s: &[u8], rows: &[u8]) {
+    print_text(b"cells");
+    grid_at(s, 1, rows);
+    grid_at(s, 2, rows);
+    grid_at(s, 4, rows);
+    grid_at(s, 8, rows);
+    grid_at(s, 16, rows);
+    grid_at(s, 32, rows);
+    print_text(b"\n");
+}
+
+// The roll of 256 tracks is 7,424 bytes long.
+fn print_rolls(s: &[u8]) {
+    let mut rows = [0u8; 7424];
+    let answer = plain_run::plain_roll_bytes(s, &mut rows);
+    print_rows(answer, &rows);
+    print_figures(s, &rows);
+}
+
+pub fn answer(s: &[u8]) {
+    let reading = reader::read(s);
+    let verdict = reading.verdict;
+    match verdict {
+        Verdict::Accepted => {
+            let sheet = reading.sheet;
+            print_form(sheet);
+            print_rolls(s);
+        }
+        Verdict::Refused(number, place) => {
+            print_refusal(number, place);
+            print_text(b"\n");
+        }
+    }
+}

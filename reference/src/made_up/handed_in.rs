@@ -1,0 +1,32 @@
+//! Made-up records handed in: those of made-up sheets, sometimes with other counts.
+
+use super::{accepted, doubtful, nearly_accepted, provoked};
+use crate::handed_in::HandedIn;
+use crate::rng::Rng;
+use crate::sheet::{whole_commands, Records};
+
+/// Often the right count, otherwise one less, more, or more than there is room for.
+fn count(rng: &mut Rng, listed: usize) -> u64 {
+    let listed = listed as u64;
+    match rng.below(12) {
+        0 => listed.saturating_sub(1),
+        1 => rng.below(listed as usize + 1) as u64,
+        2 => listed + 1,
+        3 => rng.pick(&[256, 257, 300, 65536, u64::MAX]),
+        _ => listed,
+    }
+}
+
+pub fn handed_in(rng: &mut Rng) -> HandedIn {
+    let make = rng.pick(&[accepted, accepted, nearly_accepted, doubtful, provoked]);
+    let commands = whole_commands(&make(rng)).expect("a sheet of whole commands");
+    let listed = Records::of(&commands);
+    let ntracks = count(rng, listed.tracks.len());
+    let nwalls = count(rng, listed.walls.len());
+    HandedIn { ntracks, nwalls, listed }
+}
+
+pub fn all(seed: u64) -> Vec<HandedIn> {
+    let mut rng = Rng::new(seed);
+    (0..1200).map(|_| handed_in(&mut rng)).collect()
+}
