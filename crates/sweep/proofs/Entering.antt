@@ -25,10 +25,12 @@ use Rattle.causes.specs.Looked.{Named}
 use Rattle.table.specs.Table.{causeAt}
 use Rattle.cells.specs.declared.Cell.{Cell}
 use Rattle.cells.specs.Grid.{Figure, side, InCell}
-use Rattle.cells.proofs.Cut.{Cut, _≤ᶜ_, _<ᶜ_, past, not-past, by-past, ≤ᶜ-or-<ᶜ, ≤ᶜ-trans, ≤ᶜ-<ᶜ-trans, after-mono, sooner-by}
+use Rattle.cells.specs.Cut.{Cut, past}
+use Rattle.cells.specs.OneCell.{entry, exit}
+use Rattle.cells.proofs.Cut.{_≤ᶜ_, _<ᶜ_, not-past, by-past, ≤ᶜ-or-<ᶜ, ≤ᶜ-trans, ≤ᶜ-<ᶜ-trans, after-mono, sooner-by}
 use Rattle.cells.proofs.Count.{first, first-in, stay-rim, figure-side}
 use Rattle.cells.proofs.Entered.{Entered, entered-next}
-use Rattle.cells.proofs.Entry.{entry, exit, cell-entry, point-of, past-before, before-past}
+use Rattle.cells.proofs.Entry.{cell-entry, point-of, past-before, before-past}
 use Rattle.cells.proofs.Points.{shared, placed, in-grid}
 use Rattle.cells.proofs.Walk.{next, Good, Stepped, stepped}
 use Rattle.heap.specs.Key.{NotAfter}
