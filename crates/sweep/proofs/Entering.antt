@@ -96,8 +96,8 @@ module _ {S : Listing} (acc : Accepted S) {g : ℕ} (fig : Figure g) (some-side 
   on-sheet : exit a s k <ᶜ past (rim a)
   on-sheet = past-before (after-mono by-rim (before-past soon))
 
-  step : Stepped a (rim a) s g k (next a s k)
-  step = stepped a (rim a) s g some-side (figure-side fig) (stay-rim acc on (≤ᵗ-refl (rim a))) k (now .good) on-sheet
+  pub next-stepped : Stepped a (rim a) s g k (next a s k)
+  next-stepped = stepped a (rim a) s g some-side (figure-side fig) (stay-rim acc on (≤ᵗ-refl (rim a))) k (now .good) on-sheet
 
   pub next-entered : Entered a (rim a) s (next a s k) (next a s k ∷ cellsAt es r)
   next-entered = entered-next g some-side (figure-side fig) (stay-rim acc on (≤ᵗ-refl (rim a))) on-sheet now
@@ -108,7 +108,7 @@ module _ {S : Listing} (acc : Accepted S) {g : ℕ} (fig : Figure g) (some-side 
     where
       go : (past u ≤ᶜ exit a s k) ⊎ (exit a s k <ᶜ past u) → entry a s (next a s k) <ᶜ past u
       go (inl h) = absurd (<ᵗ-irrefl (<ᵗ-≤ᵗ-trans (between (exit a s k) h soon) (f h)))
-      go (inr h) = ≤ᶜ-<ᶜ-trans (step .since) h
+      go (inr h) = ≤ᶜ-<ᶜ-trans (next-stepped .since) h
 
   inside : (u : Time) → past u ≤ᶜ exit a s k → (c : Cell) × InCell a s c u × (c ∈ cellsAt es r)
   inside u h =
