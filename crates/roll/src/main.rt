@@ -3,10 +3,12 @@
 ghost use mathlib.Core.Path.{_≡_};
 ghost use Prim.Native.Nat.{_+_, _*_, _≤_};
 ghost use lib.ListN.{length, take};
+ghost use Rattle.sheet.specs.Listing.{listing};
+ghost use Rattle.sheet.specs.Scan.{verdictOf, commandsOf};
 ghost use Rattle.rule.specs.RowBytes.{RowFits};
 ghost use Rattle.stored.specs.Stored.{rowsIn};
 ghost use Rattle.text.specs.Lines.{lineOf, headOf, refusedOf};
-ghost use Rattle.roll.specs.Answer.{linesOf, Answers};
+ghost use Rattle.roll.specs.Answer.{linesOf, answerOf};
 ghost use Rattle.roll.specs.Behind.{Behind, lengthIn};
 use grid_run::GridRolled;
 use libc::STDIN_FILENO;
@@ -72,7 +74,7 @@ fn put_rows(rows: &[u8], n: usize, at: usize, out: &mut [u8]) -> usize
 // The text for a sheet. The roll of 256 tracks is 7,424 bytes long, its lines at most 37,632.
 fn answer(sheet: &[u8], out: &mut [u8]) -> usize
     requires { ⌜ 40960 ≤ length (now out) ⌝ }
-    ensures { λ r. ⌜ Answers (now (sheet .entry)) (take r (now (out .exit))) × (r ≤ length (now (out .exit))) ⌝ }
+    ensures { λ r. ⌜ (take r (now (out .exit)) ≡ answerOf (verdictOf (now (sheet .entry))) (listing (commandsOf (now (sheet .entry))))) × (r ≤ length (now (out .exit))) ⌝ }
 {
     let mut rows = [0u8; 7424];
     let rolled = grid_run::grid_roll_bytes(sheet, 8, &mut rows);
