@@ -11,7 +11,7 @@ use Rattle.layout.specs.Bytes.{leOf}
 unfoldable pub endOf : ℕ → List ℕ → ℕ → ℕ → Fraction
 endOf zero rows at id = record { num = 0; den = 1 }
 endOf (suc n) rows at id =
-    cond (eqb (leOf 2 rows at) id) (record { num = leOf 4 rows (at + 5); den = leOf 4 rows (at + 13) }) (endOf n rows (at + 29) id)
+    cond (eqb (leOf 2 rows at) id) (record { num = leOf 8 rows (at + 5); den = leOf 8 rows (at + 13) }) (endOf n rows (at + 29) id)
 
 abbrev pub endTime : ℕ → List ℕ → ℕ → Time
 endTime n rows id = fraction (endOf n rows 0 id .num) (endOf n rows 0 id .den)

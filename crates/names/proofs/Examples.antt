@@ -2,6 +2,7 @@
 use Prim.Native.Nat.{ℕ}
 use mathlib.Core.Path.{_≡_, refl}
 use mathlib.Core.List.{List, [], _∷_}
+use Rattle.layout.specs.Bytes.{leOf}
 use Rattle.rule.specs.declared.Ending.the-variants.{ByTrack, Meeting, ByWall, Edge}
 use Rattle.names.specs.NameList.{wholeEntries, entriesOf, firstNamed, nameOf}
 use Rattle.names.specs.Partner.{ofTracks, ofWalls, partnerName}
@@ -14,5 +15,5 @@ abbrev cut : List ℕ
 cut = 1 ∷ []
 
 pub tried : (partnerName list cut (ByTrack 7) ≡ ofTracks 3 2) × (partnerName list cut (Meeting 9) ≡ ofTracks 8 0) × (partnerName list cut (ByTrack 8) ≡ ofTracks 0 0) × (partnerName cut list (ByWall 7) ≡ ofWalls 3 2) × (partnerName list cut (ByWall 1) ≡ ofTracks 0 0) × (partnerName list cut Edge ≡ ofTracks 0 0)
-unfolding partnerName nameOf firstNamed entriesOf wholeEntries
+unfolding partnerName nameOf firstNamed entriesOf wholeEntries leOf
 tried = (refl, refl, refl, refl, refl, refl)

@@ -11,7 +11,7 @@ use Rattle.layout.specs.Bytes.{AllBytes}
 use Rattle.names.specs.declared.Found.the-variants.{At, Nothing}
 use Rattle.names.specs.NameList.{Entry, entryBytes, listBytes, entriesOf, firstNamed, nameOf}
 use Rattle.names.proofs.Search.{none, first, next}
-use Rattle.names.proofs.Written.{AllFit, CutShort, entry-bytes, read-back, every-list}
+use Rattle.names.proofs.Written.{AllFit, CutShort, entry-length, behind-header, read-back, every-list}
 
 -- no entry has the id
 abbrev pub Without : ℕ → List Entry → Type 0
@@ -49,9 +49,6 @@ first-or-none q (e ∷ l) = go (ℕ-discrete (e .id) q) (first-or-none q l)
 none-of : (at : ℕ) (l : List Entry) (q : ℕ) → Without q l → firstNamed at l q ≡ Nothing
 none-of at [] q h = none at q
 none-of at (e ∷ l) q h = next at e l q (h .0) ∙ none-of (at + 3 + length (e .name)) l q (h .1)
-
-entry-length : (e : Entry) → length (entryBytes e) ≡ 3 + length (e .name)
-entry-length e = rw (entry-bytes e) (omega arith)
 
 first-of : (at : ℕ) (before : List Entry) (e : Entry) (after : List Entry) (q : ℕ) → Without q before → e .id ≡ q → firstNamed at (before ++ e ∷ after) q ≡ At (at + length (listBytes before) + 3) (length (e .name))
 unfolding listBytes
@@ -101,7 +98,7 @@ module _ (before : List Entry) (e : Entry) (after : List Entry) (cut : List ℕ)
   pub its-bytes : take (length (e .name)) (drop (length (listBytes before) + 3) (listBytes (before ++ e ∷ after) ++ cut)) ≡ e .name
   unfolding listBytes
   its-bytes =
-      rw (joined before (e ∷ after), append-assoc (listBytes before) (entryBytes e ++ listBytes after) cut, drop-append-add (listBytes before) (entryBytes e ++ listBytes after ++ cut) 3, append-assoc (entryBytes e) (listBytes after) cut, entry-bytes e)
+      rw (joined before (e ∷ after), append-assoc (listBytes before) (entryBytes e ++ listBytes after) cut, drop-append-add (listBytes before) (entryBytes e ++ listBytes after ++ cut) 3, append-assoc (entryBytes e) (listBytes after) cut, behind-header e (listBytes after ++ cut))
       (take-at (e .name) (listBytes after ++ cut) (length (e .name)) refl)
 
 pub not-found : (l : List Entry) (cut : List ℕ) (q : ℕ) → AllFit l → CutShort cut → Without q l → nameOf (listBytes l ++ cut) q ≡ Nothing

@@ -1,16 +1,17 @@
--- One step of the search, at the place that it has reached: `hit` and `miss` where a whole entry stands, `no-head` and `no-name` where none does; `goes-on`, `still`, `ended` of the hit that is kept.
-use Prim.Native.Nat.{ℕ, suc, _≤_, _<_, _-_, _+_, _*_}
+-- One step of the search, at the place that it has reached: `hit` and `miss` where a whole entry stands, `cut-short` where none does.
+use Prim.Native.Nat.{ℕ, _≤_, _<_, _-_, _+_}
 use mathlib.Core.Path.{_≡_, refl, sym, ap, _∙_}
 use mathlib.Core.List.{List, [], _∷_}
 use native.Mathlib.Omega.{arith}
-use lib.ListN.{length, getD, take, drop, length-take, length-drop}
-use lib.Seq.{drop-cons, drop-drop}
+use lib.ListN.{length, take, drop, length-take, length-drop}
+use lib.Seq.{drop-drop}
 use borrow.Author.Tests.{eq-eqb, ne-eqb}
 use Rattle.layout.specs.Bytes.{leOf}
+use Rattle.layout.proofs.Bytes.{le-drop}
 use Rattle.names.specs.declared.Found.{Found}
 use Rattle.names.specs.declared.Found.the-variants.{At, Nothing}
-use Rattle.names.specs.NameList.{Entry, entry, entriesOf, firstNamed, nameOf}
-use Rattle.names.proofs.Entries.{whole-front, cut-front, stray}
+use Rattle.names.specs.NameList.{Entry, entry, entryWidth, entriesOf, firstNamed, nameOf}
+use Rattle.names.proofs.Entries.{whole-front, cut-front}
 
 -- what is found in the entries from a place on
 abbrev pub found : List ℕ → ℕ → ℕ → Found
@@ -32,59 +33,33 @@ pub next : (at : ℕ) (e : Entry) (l : List Entry) (q : ℕ) → (e .id ≡ q �
 unfolding firstNamed
 next at e l q h = simp (ne-eqb _ _ h)
 
--- ---- a hit kept while the rest is passed over
-
-abbrev pub orLater : Found → Found → Found
-orLater (At start size) later = At start size
-orLater Nothing later = later
-
-pub goes-on : (hit later all : Found) → hit ≡ Nothing → later ≡ all → orLater hit later ≡ all
-goes-on hit later all h e = rw h e
-
-pub still : (hit later all : Found) → hit ≡ Nothing → orLater hit later ≡ all → later ≡ all
-still hit later all h e = rw h at e
-
-pub ended : (hit later all : Found) → later ≡ Nothing → orLater hit later ≡ all → hit ≡ all
-ended (At start size) later all h e = e
-ended Nothing later all h e = sym h ∙ e
-
 -- ---- at a place
 
-module _ (s : List ℕ) (at q : ℕ) where
-  pub no-head : length s - at < 3 → found s at q ≡ Nothing
-  no-head h = ap (λ (l : List Entry). firstNamed at l q) (stray (drop at s) (simp length-drop h)) ∙ none at q
+module _ (s : List ℕ) (at q size : ℕ) (sized : size ≡ leOf 1 s (at + 2)) where
+  -- the same length, in the part that starts at the place
+  length-there : leOf 1 (drop at s) 2 ≡ size
+  length-there = le-drop 1 at s 2 ∙ sym sized
 
-  module _ (size : ℕ) (head : 3 ≤ length s - at) (byte : size ≡ getD s (at + 2) 0) where
-    parts : drop at s ≡ getD s at 0 ∷ getD s (at + 1) 0 ∷ size ∷ drop (at + 3) s
-    parts =
-        let i : at < length s = omega arith in
-        let j : at + 1 < length s = omega arith in
-        let k : at + 2 < length s = omega arith in
-        let e₁ : suc at ≡ at + 1 = omega arith in
-        let e₂ : suc (at + 1) ≡ at + 2 = omega arith in
-        let e₃ : suc (at + 2) ≡ at + 3 = omega arith in
-        rw (byte, drop-cons s at 0, e₁, drop-cons s (at + 1) 0, e₂, drop-cons s (at + 2) 0, e₃)
+  pub cut-short : length s - at < 3 + size → found s at q ≡ Nothing
+  cut-short h =
+      let short : length (drop at s) < entryWidth (drop at s) = rw length-there (simp length-drop h) in
+      ap (λ (l : List Entry). firstNamed at l q) (cut-front (drop at s) short) ∙ none at q
 
-    pub no-name : length s - (at + 3) < size → found s at q ≡ Nothing
-    no-name h =
-        ap (λ (l : List Entry). firstNamed at l q) (ap entriesOf parts ∙ cut-front _ _ size (drop (at + 3) s) (simp length-drop h))
-        ∙ none at q
+  module _ (fits : 3 + size ≤ length s - at) where
+    name-length : length (take size (drop 3 (drop at s))) ≡ size
+    name-length = simp (length-take, length-drop) (omega arith)
 
-    module _ (fits : size ≤ length s - (at + 3)) where
-      sized : length (take size (drop (at + 3) s)) ≡ size
-      sized = simp (length-take, length-drop) (omega arith)
+    whole : entriesOf (drop at s) ≡ entry (leOf 2 s at) (take size (drop 3 (drop at s))) ∷ entriesOf (drop (at + 3 + size) s)
+    whole =
+        let h : entryWidth (drop at s) ≤ length (drop at s) = rw length-there (simp length-drop fits) in
+        let z : at + 0 ≡ at = omega arith in
+        let p : at + (3 + size) ≡ at + 3 + size = omega arith in
+        rw (length-there, le-drop 2 at s 0, z, drop-drop (3 + size) at s, p) at (whole-front (drop at s) h)
 
-      whole : entriesOf (drop at s) ≡ entry (leOf 2 s at) (take size (drop (at + 3) s)) ∷ entriesOf (drop (at + 3 + size) s)
-      unfolding leOf
-      whole =
-          let e : getD s at 0 + 256 * getD s (at + 1) 0 ≡ leOf 2 s at = omega arith in
-          let f : size ≤ length (drop (at + 3) s) = simp length-drop fits in
-          ap entriesOf parts ∙ whole-front _ _ size (drop (at + 3) s) f ∙ rw (e, drop-drop)
+    pub hit : leOf 2 s at ≡ q → found s at q ≡ At (at + 3) size
+    hit h = ap (λ (l : List Entry). firstNamed at l q) whole ∙ first at _ _ q h ∙ ap (At (at + 3)) name-length
 
-      pub hit : leOf 2 s at ≡ q → found s at q ≡ At (at + 3) size
-      hit h = ap (λ (l : List Entry). firstNamed at l q) whole ∙ first at _ _ q h ∙ ap (At (at + 3)) sized
-
-      pub miss : (leOf 2 s at ≡ q → ⊥) → found s at q ≡ found s (at + 3 + size) q
-      miss h =
-          ap (λ (l : List Entry). firstNamed at l q) whole ∙ next at _ _ q h
-          ∙ ap (λ (n : ℕ). firstNamed (at + 3 + n) (entriesOf (drop (at + 3 + size) s)) q) sized
+    pub miss : (leOf 2 s at ≡ q → ⊥) → found s at q ≡ found s (at + 3 + size) q
+    miss h =
+        ap (λ (l : List Entry). firstNamed at l q) whole ∙ next at _ _ q h
+        ∙ ap (λ (n : ℕ). firstNamed (at + 3 + n) (entriesOf (drop (at + 3 + size) s)) q) name-length

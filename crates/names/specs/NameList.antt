@@ -1,10 +1,10 @@
 -- Name lists (document 01, "Session and names"): "A name list is entries of id (16 bits), length (8), that many bytes."
 use mathlib.Core.Bool.{cond}
 use mathlib.Core.List.{List, [], _∷_, _++_}
-use Prim.Native.Nat.{ℕ, zero, suc, _+_, _*_}
+use Prim.Native.Nat.{ℕ, zero, suc, _+_}
 use lib.Dec.{eqb, leb}
 use lib.ListN.{length, take, drop}
-use Rattle.layout.specs.Bytes.{leBytes}
+use Rattle.layout.specs.Bytes.{leBytes, leOf}
 use Rattle.names.specs.declared.Found.{Found}
 use Rattle.names.specs.declared.Found.the-variants.{At, Nothing}
 
@@ -28,14 +28,19 @@ listBytes (e ∷ l) = entryBytes e ++ listBytes l
 
 -- ---- reading
 
--- the first whole entries, at most n, "met before any entry that is cut short": one or two bytes alone are cut short, and so is a name with fewer bytes than its length says
+-- how many bytes the entry at the front of s says that it has: three, and its name
+abbrev pub entryWidth : List ℕ → ℕ
+entryWidth s = 3 + leOf 1 s 2
+
+-- the entry at the front of s
+abbrev pub entryIn : List ℕ → Entry
+entryIn s = entry (leOf 2 s 0) (take (leOf 1 s 2) (drop 3 s))
+
+-- the first whole entries, at most n, met before any entry that is cut short; past the end a byte reads as 0, so one or two bytes alone are cut short too
 unfoldable pub wholeEntries : ℕ → List ℕ → List Entry
 wholeEntries zero s = []
-wholeEntries (suc n) [] = []
-wholeEntries (suc n) (low ∷ []) = []
-wholeEntries (suc n) (low ∷ high ∷ []) = []
-wholeEntries (suc n) (low ∷ high ∷ size ∷ s) =
-    cond (leb size (length s)) (entry (low + 256 * high) (take size s) ∷ wholeEntries n (drop size s)) []
+wholeEntries (suc n) s =
+    cond (leb (entryWidth s) (length s)) (entryIn s ∷ wholeEntries n (drop (entryWidth s) s)) []
 
 -- all of them: an entry has three bytes or more, so the count never ends the reading
 unfoldable pub entriesOf : List ℕ → List Entry

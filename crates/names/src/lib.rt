@@ -1,8 +1,8 @@
 // The partner's name (document 01, "Session and names"): a part of one of two lent name lists, chosen by the kind of ending.
 ghost use mathlib.Core.Path.{_≡_};
-ghost use Prim.Native.Nat.{_<_};
 ghost use Rattle.names.specs.NameList.{nameOf};
 ghost use Rattle.names.specs.Partner.{partnerName, IsPart, IsNamed};
+use layout::get;
 use layout::get16;
 use rule::Ending;
 
@@ -13,34 +13,23 @@ enum Found {
     Nothing,
 }
 
-// A byte with its bound, so that the end of an entry is known to fit.
-fn wide(b: u8) -> usize
-    ensures { λ r. ⌜ (r ≡ b) × (r < 256) ⌝ }
-{
-    b as usize
-}
-
-// Entry by entry: an entry has 3 bytes before its name. The first with the id is the last that is looked at.
+// Entry by entry, 3 bytes and a name, up to the first with the id or to one that is cut short.
 fn find(list: &[u8], id: u16) -> Found
     ensures { λ r. ⌜ r ≡ nameOf (now (list .entry)) id ⌝ }
 {
-    let mut hit = Found::Nothing;
     let mut at: usize = 0;
     while 3 <= list.len() - at {
         let start = at + 3;
-        let size = wide(list[at + 2]);
+        let size = get(list, at + 2, 1) as usize;
         if list.len() - start < size {
-            return hit;
+            return Found::Nothing;
         }
-        let next = start + size;
         if get16(list, at) == id {
-            hit = Found::At(start, size);
-            at = list.len();
-        } else {
-            at = next;
+            return Found::At(start, size);
         }
+        at = start + size;
     }
-    hit
+    Found::Nothing
 }
 
 // The name in a list, or the empty part at the start of `tracks`.
