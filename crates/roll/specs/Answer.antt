@@ -1,21 +1,16 @@
 -- What `roll` prints (document 01, "Sheets to try").
 use mathlib.Core.Path.{_≡_}
-use mathlib.Core.List.{List, [], _∷_, _++_}
+use mathlib.Core.List.{List, [], _++_}
 use Prim.Native.Nat.{ℕ}
 use lib.ListN.{length}
 use Rattle.sheet.specs.Listing.{Listing, listing}
 use Rattle.sheet.specs.Returned.{Returned, accepted, gives, refused}
 use Rattle.sheet.specs.Scan.{verdictOf, commandsOf}
-use Rattle.rule.specs.declared.Row.{Row}
 use Rattle.rule.specs.Rows.{timeOf}
 use Rattle.rule.specs.Selection.{rollOf}
 use Rattle.cells.specs.Touched.{Counted}
-use Rattle.text.specs.Lines.{lineOf, headOf, refusedOf}
-
--- "Then id, kind, partner, time, x and y in 64ths.": a line for each row
-unfoldable pub linesOf : List Row → List ℕ
-linesOf [] = []
-linesOf (r ∷ l) = lineOf r ++ linesOf l
+use Rattle.text.specs.Lines.{headOf, refusedOf}
+use Rattle.page.specs.Rows.{linesOf}
 
 -- "First line: tracks, cells entered", then the rows of the roll. "A refusal prints `refused` and the two numbers."
 unfoldable pub answerOf : Returned → Listing → ℕ → List ℕ
