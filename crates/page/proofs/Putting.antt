@@ -4,7 +4,7 @@ use mathlib.Core.List.{List, [], _∷_, _++_, append-assoc, append-nil}
 use Prim.Native.Nat.{ℕ, _+_, _-_, _≤_}
 use native.Mathlib.Numerals.{add-one}
 use native.Mathlib.Omega.{arith}
-use lib.ListN.{length, take, drop, length-append, length-drop}
+use lib.ListN.{length, take, drop, length-append, length-drop, length-take}
 use lib.Seq.{length-take-le, take-at}
 use borrow.Rule.Slice.PartMut.{midOf, postOf, mid-len}
 use Rattle.sheet.specs.Lent.{andThen}
@@ -82,6 +82,10 @@ and-behind {a} {b} {before} {mid} {exit} {at} {here} {end} h k =
       long = omega (arith, h .long, k .long, length-append a b);
       same = k .same ∙ h .same;
     }
+
+-- the text's end is in the buffer
+pub within : {text before exit : List ℕ} {end : ℕ} → Behind text 0 before end exit → end ≤ length exit
+within {exit = exit} {end} b = omega (arith, ap length (b .is), length-take end exit, b .long)
 
 -- ---- rows
 

@@ -3,7 +3,7 @@ use mathlib.Core.Path.{_≡_, refl, sym, ap, _∙_, subst}
 use mathlib.Core.List.{List, _++_}
 use Prim.Native.Nat.{ℕ, _≤_}
 use native.Mathlib.Omega.{arith}
-use lib.ListN.{length, take, drop, length-take}
+use lib.ListN.{length, take, drop}
 use Rattle.layout.specs.Bytes.{AllBytes}
 use Rattle.sheet.specs.Lent.{andThen}
 use Rattle.sheet.specs.Listing.{Listing, listing}
@@ -96,10 +96,6 @@ module _ (s : List ℕ) {out exit : List ℕ} {end : ℕ} where
   pub prints-refusal : {n p : ℕ} → verdictOf s ≡ refused n p → Behind (refusedOf n p) 0 out end exit → Answers s (take end exit)
   unfolding answerOf
   prints-refusal e b = record { cells = 0; counted = λ f. absurd (let g = sym e ∙ f in let z : _≡_ {A = ℕ} 0 1 = cc in omega arith); is = b .is ∙ rw e refl }
-
--- the text's end is in the buffer
-pub within : {text before exit : List ℕ} {end : ℕ} → Behind text 0 before end exit → end ≤ length exit
-within {exit = exit} {end} b = omega (arith, ap length (b .is), length-take end exit, b .long)
 
 -- the text for the first n bytes of a sheet is the text for the sheet
 pub reads-enough : (n : ℕ) (s text : List ℕ) → 5131 ≤ n → Answers (take n s) text → Answers s text

@@ -4,8 +4,8 @@ use native.Mathlib.Omega.{arith}
 use lib.ListN.{length-replicate}
 use borrow.Author.Needs.{needs}
 use Rattle.layout.proofs.Bytes.{slice-bytes}
-use Rattle.roll.proofs.Answered.{rows-read, as-refused, prints-roll, prints-refusal, within}
-use Rattle.page.proofs.Putting.{and-behind}
+use Rattle.roll.proofs.Answered.{rows-read, as-refused, prints-roll, prints-refusal}
+use Rattle.page.proofs.Putting.{and-behind, within}
 use Rattle.roll.proofs.answer.Statement.{statement}
 use Rattle.roll.proofs.answer.Tie as tie
 
