@@ -1,4 +1,4 @@
--- What each kind of event says. Main theorems: `cell-comes`, `cell-came` (a cell entered), `track-reached`, `wall-reached`, `edge-reached`.
+-- What each kind of event says. Main theorems: `cell-comes`, `cell-came` (a cell entered), `in-time` (when), `track-reached`, `wall-reached`, `edge-reached`.
 use mathlib.Core.List.{List}
 use mathlib.Core.Bool.{Bool, true, false, cond}
 use mathlib.Core.Path.{_≡_, refl, sym, ap, _∙_, subst}
@@ -6,23 +6,26 @@ use Prim.Native.Nat.{ℕ, zero, suc, _+_, _-_, _<_}
 use native.Mathlib.Omega.{arith}
 use lib.Dec.{eqb}
 use Rattle.sheet.specs.Listing.{Listing}
+use Rattle.rule.specs.Rows.{timeOf}
+use Rattle.rule.specs.Selection.{rollOf}
 use Rattle.rule.proofs.Tests.{eqb-self, eqb-true}
 use Rattle.lines.specs.Lines.{trackAt}
 use Rattle.causes.specs.declared.Cause.{Cause}
 use Rattle.table.specs.Table.{causeAt}
 use Rattle.turn.specs.Counts.{Counts, no-track}
 use Rattle.cells.specs.declared.Cell.{Cell}
+use Rattle.cells.specs.EnteredAt.{EnteredAt}
 use Rattle.cells.specs.Grid.{side}
 use Rattle.cells.proofs.Walk.{next}
 use Rattle.heap.specs.declared.Event.{Event}
 use Rattle.heap.specs.declared.Event.the-variants as event
-use Rattle.heap.specs.Key.{keyAt}
+use Rattle.heap.specs.Key.{time, keyAt}
 use Rattle.pending.specs.Pending.{reachedOf, eventOf}
 use Rattle.sweep.specs.State.{spotAt}
 use Rattle.sweep.specs.Run.{Way}
 use Rattle.enter.specs.Arrived.{Arrived}
-use Rattle.deal.specs.Due.{Due, Reached, Dealt}
-use Rattle.deal.proofs.Deals.{cell-way, cell-dealt, cell-room}
+use Rattle.deal.specs.Due.{Due, InTime, Reached, Dealt}
+use Rattle.deal.proofs.Deals.{cell-way, cell-time, cell-dealt, cell-room}
 
 -- ---- of one event
 
@@ -103,6 +106,18 @@ module _ {S : Listing} {starts speeds : List ℕ} {n : ℕ} {walls : List ℕ} {
   edge-reached f =
       let r = reached f (λ a b e. let z : _≡_ {A = ℕ} 0 1 = cc in omega arith) in
       (r .0, no-track (edge-class (causeAt table i .class) (causeAt table i .id) (r .1)))
+
+  -- at the time of its key
+  pub in-time : InTime S g (trackAt starts speeds i) v (time (keyAt keys i))
+  in-time = go v refl
+    where
+      go : (x : Event) → v ≡ x → InTime S g (trackAt starts speeds i) x (time (keyAt keys i))
+      go (event.Cell x y) f =
+          let (l, k) = is-cell (keyAt keys i .late) to (causeAt table i) x y (sym f ∙ d .is) in
+          subst (λ (z : Cell). EnteredAt (trackAt starts speeds i) (timeOf (rollOf S) (trackAt starts speeds i .id)) (side g) z (time (keyAt keys i))) k (cell-time g (d .popping) l)
+      go (event.Track x) f = tt
+      go (event.Wall x) f = tt
+      go event.Edge f = tt
 
   pub cells-in : {s x y : ℕ} → s ≡ side g → v ≡ event.Cell x y → cells < 16128
   cells-in e f = cell-room g (d .popping) (cell-comes e f)

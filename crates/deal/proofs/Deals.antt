@@ -1,4 +1,4 @@
--- What each event leaves. Main theorems: `cell-dealt`, `again-dealt`, `end-dealt`.
+-- What each event leaves. Main theorems: `cell-dealt`, `cell-time`, `again-dealt`, `end-dealt`.
 use mathlib.Core.List.{List, _∷_}
 use mathlib.Core.Bool.{Bool, false}
 use mathlib.Core.Logic.{inl, inr}
@@ -18,6 +18,8 @@ use Rattle.rule.specs.declared.Row.{Row}
 use Rattle.rule.specs.Causes.{rowOf}
 use Rattle.rule.specs.Motion.{Inside}
 use Rattle.rule.specs.RowBytes.{rowBytes}
+use Rattle.rule.specs.Rows.{timeOf}
+use Rattle.rule.specs.Selection.{rollOf}
 use Rattle.lines.specs.Lines.{trackAt}
 use Rattle.lines.proofs.Places.{tracks-count}
 use Rattle.causes.specs.Cause.{tipAt, candOf, Stands, Fine}
@@ -28,10 +30,11 @@ use Rattle.turn.specs.Ended.{Endable, Ended, nextRow}
 use Rattle.turn.proofs.Counting.{counts-live, live-counts}
 use Rattle.turn.proofs.Rolling.{written-next}
 use Rattle.cells.specs.declared.Cell.{Cell}
+use Rattle.cells.specs.EnteredAt.{EnteredAt}
 use Rattle.cells.specs.Grid.{side}
 use Rattle.cells.proofs.Walk.{next}
 use Rattle.heap.specs.declared.Key.{Key}
-use Rattle.heap.specs.Key.{keyAt}
+use Rattle.heap.specs.Key.{time, keyAt}
 use Rattle.heap.specs.Queue.{Pending, Absent, Pushed}
 use Rattle.pending.specs.Pending.{pendingKey}
 use Rattle.sweep.specs.State.{spotAt, cellsAt}
@@ -40,7 +43,7 @@ use Rattle.sweep.specs.ToDo.{Sure}
 use Rattle.sweep.proofs.Queue.{none-out}
 use Rattle.sweep.proofs.Run.{way-room, way-count}
 use Rattle.sweep.proofs.ToDo.{less-cells, less-stale, less-rows}
-use Rattle.sweep.proofs.Turns.{event-here, event-runs, event-tip, event-key, way-next, again-sure, again-state, ended-inside, ended-row, ended-rows, ended-state}
+use Rattle.sweep.proofs.Turns.{event-here, event-runs, event-tip, event-key, way-next, entry-time, again-sure, again-state, ended-inside, ended-row, ended-rows, ended-state}
 use Rattle.events.specs.Happened.{Again, Finished}
 use Rattle.enter.specs.Arrived.{Arrived}
 use Rattle.deal.specs.Due.{Popping, Dealt}
@@ -108,6 +111,11 @@ module _ {S : Listing} {starts speeds : List ℕ} {n : ℕ} {walls : List ℕ} {
       subst (λ (q : ℕ). Way S done es starts speeds n walls m (side g) n i (next (trackAt starts speeds i) (side g) (spotAt spots i)) table over marks spots keys heap place lists cells q) due-pending
       (subst (λ (a : Track). Way S done es starts speeds n walls m (side g) n i (next a (side g) (spotAt spots i)) table over marks spots keys heap place lists cells (p - 1)) tip-is
       (way-next (go .figure) st (d .popped) (subst (λ (k : Key). k .late ≡ 1 → ⊥) (event-key (go .figure) st (d .popped)) l)))
+
+  pub cell-time : (keyAt keys i .late ≡ 1 → ⊥) → EnteredAt (trackAt starts speeds i) (timeOf (rollOf S) (trackAt starts speeds i .id)) (side g) (next (trackAt starts speeds i) (side g) (spotAt spots i)) (time (keyAt keys i))
+  cell-time l =
+      subst (λ (a : Track). EnteredAt a (timeOf (rollOf S) (a .id)) (side g) (next a (side g) (spotAt spots i)) (time (keyAt keys i))) tip-is
+      (entry-time (go .figure) st (d .popped) (subst (λ (k : Key). k .late ≡ 1 → ⊥) (event-key (go .figure) st (d .popped)) l) (go .rows))
 
   pub cell-dealt : {k : Cell} → (w : Way S done es starts speeds n walls m (side g) n i k table over marks spots keys heap place lists cells (n - rows - 1)) → {table′ marks′ spots′ keys′ heap′ place′ lists′ : List ℕ} →
       Arrived S done es starts speeds n walls m (side g) n i k over table table′ marks′ spots′ keys′ heap′ place′ lists′ cells (n - rows - 1) →

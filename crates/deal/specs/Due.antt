@@ -3,12 +3,18 @@ use mathlib.Core.Path.{_≡_}
 use mathlib.Core.List.{List}
 use Prim.Native.Nat.{ℕ, _*_, _≤_, _<_}
 use lib.ListN.{length}
+use Rattle.exact.specs.Time.{Time}
+use Rattle.sheet.specs.declared.Track.{Track}
 use Rattle.sheet.specs.Listing.{Listing}
+use Rattle.rule.specs.Rows.{timeOf}
+use Rattle.rule.specs.Selection.{rollOf}
 use Rattle.lines.specs.Lines.{trackAt}
 use Rattle.table.specs.Table.{causeAt}
+use Rattle.cells.specs.EnteredAt.{EnteredAt}
 use Rattle.cells.specs.Grid.{side}
 use Rattle.cells.proofs.Walk.{next}
 use Rattle.heap.specs.declared.Event.{Event}
+use Rattle.heap.specs.declared.Event.the-variants as event
 use Rattle.heap.specs.Key.{keyAt}
 use Rattle.heap.specs.Queue.{Popped}
 use Rattle.pending.specs.Pending.{eventOf}
@@ -30,6 +36,13 @@ pub record Popping (S : Listing) (starts speeds : List ℕ) (n : ℕ) (walls : L
 pub record Due (S : Listing) (starts speeds : List ℕ) (n : ℕ) (walls : List ℕ) (m g i : ℕ) (event : Event) (table over marks spots keys heap place lists : List ℕ) (cells rows : ℕ) (before out : List ℕ) : Type 0 where
   pub popping : Popping S starts speeds n walls m g i table over marks spots keys heap place lists cells rows before out
   pub is : event ≡ eventOf (keyAt keys i .late) (next (trackAt starts speeds i) (side g) (spotAt spots i)) (causeAt table i)
+
+-- an event of tip a left the heap at the time τ: where a cell is entered, that is when the trace of a, to its exact end, enters it
+abbrev pub InTime : Listing → ℕ → Track → Event → Time → Type 0
+InTime S g a (event.Cell x y) τ = EnteredAt a (timeOf (rollOf S) (a .id)) (side g) (record { column = x; row = y }) τ
+InTime S g a (event.Track i) τ = Unit {0}
+InTime S g a (event.Wall i) τ = Unit {0}
+InTime S g a event.Edge τ = Unit {0}
 
 -- something is reached
 pub record Reached (S : Listing) (starts speeds : List ℕ) (n : ℕ) (walls : List ℕ) (m g i : ℕ) (table over marks spots keys heap place lists : List ℕ) (cells rows : ℕ) (before out : List ℕ) : Type 0 where

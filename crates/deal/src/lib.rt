@@ -2,11 +2,13 @@
 ghost use mathlib.Core.Path.{_≡_};
 ghost use mathlib.Core.List.{List};
 ghost use Rattle.sheet.specs.Listing.{Listing};
+ghost use Rattle.lines.specs.Lines.{trackAt};
 ghost use Rattle.table.specs.Table.{causeAt};
 ghost use Rattle.turn.specs.Counts.{Counts};
 ghost use Prim.Native.Nat.{ℕ};
 ghost use Rattle.cells.specs.Grid.{side};
-ghost use Rattle.deal.specs.Due.{Due, Reached, Dealt};
+ghost use Rattle.heap.specs.Key.{time, keyAt};
+ghost use Rattle.deal.specs.Due.{Due, InTime, Reached, Dealt};
 use cells::Cell;
 use heap::Event;
 
@@ -102,7 +104,7 @@ fn reach(
     )
 }
 
-// The event of the tip at i.
+// The event of the tip at i. Where it is a cell entered, the time of its key is when the trace enters the cell.
 pub fn deal(
     starts: &[u16],
     speeds: &[u8],
@@ -125,7 +127,7 @@ pub fn deal(
     out: &mut [u8],
 ) -> Tally
     requires { ⌜ ((S : Listing) × ((g : ℕ) × ((before : List ℕ) × (Due S (now starts) (now speeds) n (now walls) m g i event (now table) (now over) (now marks) (now spots) (now keys) (now heap) (now place) (now lists) cells rows before (now out) × (s ≡ side g))))) ⌝ }
-    ensures { λ r. ⌜ ((S : Listing) (g : ℕ) (before : List ℕ) → Due S (now (starts .entry)) (now (speeds .entry)) n (now (walls .entry)) m g i event (now (table .entry)) (now (over .entry)) (now (marks .entry)) (now (spots .entry)) (now (keys .entry)) (now (heap .entry)) (now (place .entry)) (now (lists .entry)) cells rows before (now (out .entry)) → s ≡ side g → Dealt S (now (starts .entry)) (now (speeds .entry)) n (now (walls .entry)) m g (now (table .entry)) (now (over .entry)) cells rows (now (table .exit)) (now (over .exit)) (now (marks .exit)) (now (spots .exit)) (now (keys .exit)) (now (heap .exit)) (now (place .exit)) (now (lists .exit)) r before (now (out .exit))) ⌝ }
+    ensures { λ r. ⌜ ((S : Listing) (g : ℕ) (before : List ℕ) → Due S (now (starts .entry)) (now (speeds .entry)) n (now (walls .entry)) m g i event (now (table .entry)) (now (over .entry)) (now (marks .entry)) (now (spots .entry)) (now (keys .entry)) (now (heap .entry)) (now (place .entry)) (now (lists .entry)) cells rows before (now (out .entry)) → s ≡ side g → Dealt S (now (starts .entry)) (now (speeds .entry)) n (now (walls .entry)) m g (now (table .entry)) (now (over .entry)) cells rows (now (table .exit)) (now (over .exit)) (now (marks .exit)) (now (spots .exit)) (now (keys .exit)) (now (heap .exit)) (now (place .exit)) (now (lists .exit)) r before (now (out .exit)) × InTime S g (trackAt (now (starts .entry)) (now (speeds .entry)) i) event (time (keyAt (now (keys .entry)) i))) ⌝ }
 {
     match event {
         Event::Cell(column, row) => {

@@ -12,6 +12,7 @@ use Rattle.lines.proofs.Places.{tracks-count}
 use Rattle.table.specs.Table.{causeAt}
 use Rattle.turn.proofs.Rolling.{written-end}
 use Rattle.cells.specs.Grid.{side}
+use Rattle.cells.proofs.CellsEntered.{the-count}
 use Rattle.heap.specs.Queue.{Pending, Present, Popped}
 use Rattle.sweep.specs.State.{spotAt, Rows}
 use Rattle.sweep.specs.Run.{State, Going}
@@ -70,6 +71,7 @@ module _ {S : Listing} {starts speeds : List ℕ} {n : ℕ} {walls : List ℕ} {
       let z : go .pending ≡ 0 = omega (arith, go .pending-is) in
       record {
         written = written-end S rows (st .lined .accepted) (go .rows .progress) (go .rows .out) (omega (arith, tracks-count (st .lined))) (go .written);
-        counted = count-is g (subst (λ (q : ℕ). State S (go .done) (go .es) starts speeds n walls m (side g) n table over marks spots keys heap place lists cells q) z st)
-            (subst (λ (q : ℕ). Rows S (go .done) q) e (go .rows));
+        counted = the-count (st .lined .accepted) (go .figure)
+            (count-is g (subst (λ (q : ℕ). State S (go .done) (go .es) starts speeds n walls m (side g) n table over marks spots keys heap place lists cells q) z st)
+            (subst (λ (q : ℕ). Rows S (go .done) q) e (go .rows)));
       }

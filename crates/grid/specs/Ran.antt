@@ -1,13 +1,13 @@
 -- What the grid run leaves: the roll's rows in the buffer, and the number of cells entered.
+use mathlib.Core.Path.{_≡_}
 use mathlib.Core.List.{List}
 use Prim.Native.Nat.{ℕ}
 use Rattle.sheet.specs.Listing.{Listing}
-use Rattle.rule.specs.Rows.{timeOf}
 use Rattle.rule.specs.Selection.{rollOf}
 use Rattle.row.specs.Written.{Written}
-use Rattle.cells.specs.Touched.{Counted}
+use Rattle.cells.specs.CellsEntered.{cellsEntered}
 
 -- "The grid run reports the cells entered: the number of cells holding a point of the trace, summed over traces."
 pub record Ran (S : Listing) (g : ℕ) (before exit : List ℕ) (cells : ℕ) : Type 0 where
   pub written : Written (rollOf S) before exit
-  pub counted : Counted (timeOf (rollOf S)) g (S .tracks) cells
+  pub counted : cells ≡ cellsEntered S g

@@ -33,15 +33,16 @@ use Rattle.rule.proofs.OrderFree.{meets-order, roll-order}
 use Rattle.rule.proofs.RowBytes.{roll-bytes-length}
 use Rattle.rule.proofs.Starts.{accepted-proper}
 use Rattle.cells.specs.Grid.{Figure}
+use Rattle.cells.specs.CellsEntered.{cellsEntered}
+use Rattle.cells.proofs.CellsEntered.{is-counted, the-count, trace-few, count-few, count-same}
 use Rattle.cells.proofs.Figures.{figure-is}
 use Rattle.plain_run.specs.declared.Rolled.{Rolled}
 use Rattle.plain_run.specs.Rolled.{rolled, needed, rollReturns, Rolls}
 use Rattle.grid_run.specs.declared.GridRolled.{GridRolled}
 use Rattle.grid_run.specs.declared.GridRolled.the-variants.{Rows, Refused}
-use Rattle.grid_run.specs.GridRolled.{gridRolled, CountIn, GridRolls}
+use Rattle.grid_run.specs.GridRolled.{Reported, gridRolled, gridReturns, withRows, GridRolls}
 use Rattle.grid_run.specs.Demand.{Given, in-bytes, in-records, Outcome, too-short, written, Reports, Demand3}
-use Rattle.grid_run.proofs.Outcome.{figured}
-use Rattle.grid_run.proofs.Counts.{cellsEntered, is-counted, the-count, count-few, count-same}
+use Rattle.grid_run.proofs.Outcome.{figured, rows-count}
 
 -- ---- what a run of an accepted sheet comes to
 
@@ -103,18 +104,19 @@ module _ (l : List Command) (fit : AllFit l) (ok : verdictOf (encodeAll l) ≡ a
         let k = subst (λ (z : Returned). Rolls z T before exit r) (is-accepted v T i) h in
         subst (λ (z : List Row). Outcome z before exit (rolled r)) (sym (roll-order p acc)) (outcome T (accepted-reordered p acc) before exit (rolled r) (k .answer) (k .buffer))
 
-    gridly : (g : ℕ) → Figure g → (before exit : List ℕ) (r : GridRolled) → GridRolls v T g before exit r → Outcome (rollOf S) before exit (gridRolled r) × Reports (cellsEntered S g) r
+    gridly : (g : ℕ) → Figure g → (before exit : List ℕ) (r : GridRolled) → GridRolls v T g before exit r → Outcome (rollOf S) before exit (gridRolled r .returned) × Reports (cellsEntered S g) r
     gridly g f before exit r h =
         let k = subst (λ (z : Returned). GridRolls z T g before exit r) (is-accepted v T i) h in
-        let e = figured T g (length before) (figure-is f) in (
-          subst (λ (z : List Row). Outcome z before exit (gridRolled r)) (sym (roll-order p acc))
-              (outcome T (accepted-reordered p acc) before exit (gridRolled r) (k .answer ∙ e) (k .buffer ∙ ap (λ (z : Returned). after z (rollBytes (rollOf T)) before) e)),
-          reports r (k .cells),
+        let e = figured T g (length before) (figure-is f) in
+        let q = ap (λ (z : Reported). z .returned) (k .answer) in (
+          subst (λ (z : List Row). Outcome z before exit (gridRolled r .returned)) (sym (roll-order p acc))
+              (outcome T (accepted-reordered p acc) before exit (gridRolled r .returned) (q ∙ e) (k .buffer ∙ ap (λ (z : Returned). after z (rollBytes (rollOf T)) before) e)),
+          reports r q (ap (λ (z : Reported). z .cells) (k .answer)),
         )
       where
-        reports : (r : GridRolled) → CountIn T g r → Reports (cellsEntered S g) r
-        reports (Rows n cells) c = the-count (accepted-reordered p acc) f c ∙ sym (count-same acc g p)
-        reports (Refused n q) c = tt
+        reports : (r : GridRolled) {R : Returned} → gridRolled r .returned ≡ R → gridRolled r .cells ≡ withRows R (cellsEntered T g) → Reports (cellsEntered S g) r
+        reports (Rows n cells) q c = c ∙ ap (λ (z : Returned). withRows z (cellsEntered T g)) (sym q) ∙ rows-count n (cellsEntered T g) ∙ sym (count-same acc g p)
+        reports (Refused n o) q c = tt
 
   pub demand : Demand3 l
   demand =
@@ -124,10 +126,10 @@ module _ (l : List Command) (fit : AllFit l) (ok : verdictOf (encodeAll l) ≡ a
         no-other-roll = roll-is S acc;
         no-other-set = λ q m r. (rows-unique S q (rollOf S) (accepted-proper acc) m (roll-of S acc .meets) r, rows-unique S (rollOf S) q (accepted-proper acc) (roll-of S acc .meets) m r);
         one-each = roll-length S acc;
-        cells = cellsEntered S;
         counted = λ g f. is-counted acc f;
         no-other-count = λ g n f c. the-count acc f c;
-        few = λ g f. count-few acc f;
+        few = λ g f a m k c. trace-few acc f a m k c;
+        few-in-all = λ g f. count-few acc f;
         all-accepted = is-accepted;
         one-rule = λ v T i q. meets-order (same-records v T i);
         by-plain = plainly;

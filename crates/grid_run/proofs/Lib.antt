@@ -1,4 +1,3 @@
 pub mod Outcome
-pub mod Counts
 pub mod Demand
 pub mod TwoListings

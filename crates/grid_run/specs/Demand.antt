@@ -6,6 +6,7 @@ use Prim.Native.Nat.{ℕ, _*_, _-_, _≤_, _<_}
 use lib.ListN.{length, take, drop}
 use Rattle.sheet.specs.declared.Command.{Command}
 use Rattle.sheet.specs.declared.Sheet.{Sheet}
+use Rattle.sheet.specs.declared.Track.{Track}
 use Rattle.sheet.specs.Format.{encodeAll}
 use Rattle.sheet.specs.HandedIn.{handedIn, checkOf}
 use Rattle.sheet.specs.Listing.{Listing, listing, tracksOf, _∈_}
@@ -16,8 +17,10 @@ use Rattle.rule.specs.declared.Row.{Row}
 use Rattle.rule.specs.Roll.{RollOf}
 use Rattle.rule.specs.RowBytes.{rollBytes}
 use Rattle.rule.specs.Rows.{timeOf, MeetsRows}
-use Rattle.cells.specs.Grid.{Figure}
-use Rattle.cells.specs.Touched.{Counted}
+use Rattle.cells.specs.declared.Cell.{Cell}
+use Rattle.cells.specs.Grid.{Figure, side}
+use Rattle.cells.specs.Touched.{CellsOf, Counted}
+use Rattle.cells.specs.CellsEntered.{cellsEntered}
 use Rattle.plain_run.specs.declared.Rolled.{Rolled}
 use Rattle.plain_run.specs.Rolled.{rolled, Rolls}
 use Rattle.grid_run.specs.declared.GridRolled.{GridRolled}
@@ -49,19 +52,19 @@ pub record Demand3 (l : List Command) : Type 0 where
   -- "the set": whatever meets the rule has these rows and no other
   pub no-other-set : (q : List Row) → MeetsRows (listing l) q → (r : Row) → (r ∈ q) ↔ (r ∈ roll)
   pub one-each : length roll ≡ length (tracksOf l)
-  -- "the number of cells holding a point of the trace, summed over traces": there is one such number for each figure, and only this depends on the figure
-  pub cells : ℕ → ℕ
-  pub counted : (g : ℕ) → Figure g → Counted (timeOf roll) g (tracksOf l) (cells g)
-  pub no-other-count : (g n : ℕ) → Figure g → Counted (timeOf roll) g (tracksOf l) n → n ≡ cells g
-  -- "bounded by 2g − 1 each"
-  pub few : (g : ℕ) → Figure g → cells g ≤ length (tracksOf l) * (2 * g - 1)
+  -- for each figure the cells with a point of a trace, summed over traces, have one number; only this depends on the figure
+  pub counted : (g : ℕ) → Figure g → Counted (timeOf roll) g (tracksOf l) (cellsEntered (listing l) g)
+  pub no-other-count : (g n : ℕ) → Figure g → Counted (timeOf roll) g (tracksOf l) n → n ≡ cellsEntered (listing l) g
+  -- no trace has a point in more than 2g − 1 cells, and so much for their sum
+  pub few : (g : ℕ) → Figure g → (a : Track) → a ∈ tracksOf l → (k : List Cell) → CellsOf a (timeOf roll (a .id)) (side g) k → length k ≤ 2 * g - 1
+  pub few-in-all : (g : ℕ) → Figure g → cellsEntered (listing l) g ≤ length (tracksOf l) * (2 * g - 1)
   -- "all orders of its commands before 00": each is accepted, and the rule says the same of it
   pub all-accepted : (v : Returned) (S : Listing) → Given l v S → v ≡ accepted
   pub one-rule : (v : Returned) (S : Listing) → Given l v S → (q : List Row) → MeetsRows (listing l) q ↔ MeetsRows S q
   -- what the contracts of plain_roll and plain_roll_bytes then come to
   pub by-plain : (v : Returned) (S : Listing) → Given l v S → (before exit : List ℕ) (r : Rolled) → Rolls v S before exit r → Outcome roll before exit (rolled r)
   -- and those of grid_roll and grid_roll_bytes, at "all six figures"
-  pub by-grid : (v : Returned) (S : Listing) (g : ℕ) → Given l v S → Figure g → (before exit : List ℕ) (r : GridRolled) → GridRolls v S g before exit r → Outcome roll before exit (gridRolled r) × Reports (cells g) r
+  pub by-grid : (v : Returned) (S : Listing) (g : ℕ) → Given l v S → Figure g → (before exit : List ℕ) (r : GridRolled) → GridRolls v S g before exit r → Outcome roll before exit (gridRolled r .returned) × Reports (cellsEntered (listing l) g) r
   -- "The rolls written are equal row for row": any order by the plain run, any order and any figure by the grid run
   pub equal : (v w : Returned) (S T : Listing) (g : ℕ) → Given l v S → Given l w T → Figure g → (plain plain′ grid grid′ : List ℕ) (p : Rolled) (r : GridRolled) →
       Rolls v S plain plain′ p → GridRolls w T g grid grid′ r → 29 * length roll ≤ length plain → 29 * length roll ≤ length grid → take (29 * length roll) plain′ ≡ take (29 * length roll) grid′

@@ -5,32 +5,40 @@ use Prim.Native.Nat.{ℕ}
 use lib.ListN.{length}
 use Rattle.sheet.specs.Lent.{andThen, after}
 use Rattle.sheet.specs.Listing.{Listing}
-use Rattle.sheet.specs.Returned.{Returned, gives, refused}
+use Rattle.sheet.specs.Returned.{Returned, accepted, gives, refused}
 use Rattle.rule.specs.RowBytes.{rollBytes}
-use Rattle.rule.specs.Rows.{timeOf}
 use Rattle.rule.specs.Selection.{rollOf}
 use Rattle.cells.specs.Grid.{figureCheck}
-use Rattle.cells.specs.Touched.{Counted}
+use Rattle.cells.specs.CellsEntered.{cellsEntered}
 use Rattle.plain_run.specs.Rolled.{rollReturns}
 use Rattle.grid_run.specs.declared.GridRolled.{GridRolled}
 use Rattle.grid_run.specs.declared.GridRolled.the-variants.{Rows, Refused}
 
-abbrev pub gridRolled : GridRolled → Returned
-gridRolled (Rows n cells) = gives n
-gridRolled (Refused n p) = refused n p
+-- what is given: the number of rows or a refusal, as by the plain run, and beside it the count of cells, 0 where there are no rows
+pub record Reported : Type 0 where
+  pub returned : Returned
+  pub cells : ℕ
 
--- "After the sheet come 13, .. 12": 13, and then as the plain run
+abbrev pub gridRolled : GridRolled → Reported
+gridRolled (Rows n cells) = record { returned = gives n; cells = cells }
+gridRolled (Refused n p) = record { returned = refused n p; cells = 0 }
+
+-- 13 after the sheet, and then as the plain run
 abbrev pub gridReturns : Returned → Listing → ℕ → ℕ → Returned
 gridReturns v S g lent = rollReturns (andThen v (figureCheck g)) S lent
 
--- "It carries this count in its result": the number of cells holding a point of a trace, each trace to the exact end of its tip
-abbrev pub CountIn : Listing → ℕ → GridRolled → Type 0
-CountIn S g (Rows n cells) = Counted (timeOf (rollOf S)) g (S .tracks) cells
-CountIn S g (Refused n p) = Unit {0}
+-- a count goes with rows only
+unfoldable pub withRows : Returned → ℕ → ℕ
+withRows accepted cells = 0
+withRows (gives n) cells = cells
+withRows (refused n p) cells = 0
 
--- the answer, its count and the buffer's contents at exit, for a sheet with a verdict and its records
+-- the whole answer: the cells are those entered on the sheet, each trace to the exact end of its tip
+abbrev pub gridReports : Returned → Listing → ℕ → ℕ → Reported
+gridReports v S g lent = let r = gridReturns v S g lent in record { returned = r; cells = withRows r (cellsEntered S g) }
+
+-- the answer and the buffer's contents at exit, for a sheet with a verdict and its records
 pub record GridRolls (v : Returned) (S : Listing) (g : ℕ) (before exit : List ℕ) (r : GridRolled) : Type 0 where
-  pub answer : gridRolled r ≡ gridReturns v S g (length before)
-  pub cells : CountIn S g r
-  -- "A refusal writes nothing. An accepted call writes only its own length."
+  pub answer : gridRolled r ≡ gridReports v S g (length before)
+  -- a refusal writes nothing, and an accepted call only its own length
   pub buffer : exit ≡ after (gridReturns v S g (length before)) (rollBytes (rollOf S)) before

@@ -11,9 +11,9 @@ use Rattle.sheet.specs.Listing.{Listing, _∈_}
 use Rattle.rule.specs.Rows.{timeOf}
 use Rattle.rule.specs.Selection.{rollOf}
 use Rattle.cells.specs.Grid.{side}
-use Rattle.cells.proofs.Cut.{before, later, sooner, past}
-use Rattle.cells.proofs.Border.{border, enter, leave}
-use Rattle.cells.proofs.Entry.{entry, exit, hasPoint, has-point-true, has-point-false}
+use Rattle.cells.specs.Cut.{before, later, sooner, past}
+use Rattle.cells.specs.OneCell.{border, enter, leave, entry, exit, hasPoint}
+use Rattle.cells.proofs.Entry.{has-point-true, has-point-false}
 use Rattle.listing.specs.CellIds.{CellIds}
 use Rattle.listing.specs.Listed.{cell}
 use Rattle.listing.proofs.Ids.{no-ids, with-id, without-id}

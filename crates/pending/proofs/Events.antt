@@ -9,7 +9,7 @@ use Rattle.sheet.specs.declared.Track.{Track}
 use Rattle.causes.specs.declared.Cause.{Cause}
 use Rattle.causes.specs.Cause.{Fine}
 use Rattle.cells.specs.declared.Cell.{Cell}
-use Rattle.cells.proofs.Entry.{exit}
+use Rattle.cells.specs.OneCell.{exit}
 use Rattle.cells.proofs.Walk.{next}
 use Rattle.walk.specs.declared.Onset.{Onset}
 use Rattle.walk.specs.declared.Crossing.{Crossing}

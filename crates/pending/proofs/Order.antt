@@ -15,8 +15,9 @@ use Rattle.sheet.specs.declared.Track.{Track}
 use Rattle.causes.specs.declared.Cause.{Cause}
 use Rattle.causes.specs.Cause.{Fine}
 use Rattle.cells.specs.declared.Cell.{Cell}
-use Rattle.cells.proofs.Cut.{Cut, _≤ᶜ_, _<ᶜ_, before, before-true, before-false, after-den, past, not-less}
-use Rattle.cells.proofs.Entry.{exit}
+use Rattle.cells.specs.Cut.{Cut, before, past}
+use Rattle.cells.specs.OneCell.{exit}
+use Rattle.cells.proofs.Cut.{_≤ᶜ_, _<ᶜ_, before-true, before-false, after-den, not-less}
 use Rattle.cells.proofs.Walk.{next}
 use Rattle.walk.specs.Onsets.{onset, onsetOf, priorOf}
 use Rattle.walk.proofs.Onsets.{is-before, past-is}

@@ -6,7 +6,7 @@ use Rattle.exact.specs.Time.{Time, fraction}
 use Rattle.sheet.specs.declared.Track.{Track}
 use Rattle.causes.specs.declared.Cause.{Cause}
 use Rattle.cells.specs.declared.Cell.{Cell}
-use Rattle.cells.proofs.Entry.{exit}
+use Rattle.cells.specs.OneCell.{exit}
 use Rattle.walk.specs.declared.Onset.{Onset}
 use Rattle.walk.specs.Onsets.{onset, onsetOf, priorOf}
 use Rattle.heap.specs.declared.Key.{Key}

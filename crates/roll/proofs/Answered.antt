@@ -13,23 +13,23 @@ use Rattle.sheet.proofs.Decided.{Decided, decided}
 use Rattle.sheet.proofs.Lent.{said-given, put, gave, refused-so}
 use Rattle.sheet.proofs.RoundTrip.{accepted-records}
 use Rattle.rule.specs.RowBytes.{rollBytes}
-use Rattle.rule.specs.Rows.{timeOf}
 use Rattle.rule.specs.Selection.{rollOf}
 use Rattle.rule.proofs.Existence.{roll-length}
 use Rattle.cells.specs.Grid.{figureCheck, g8}
-use Rattle.cells.specs.Touched.{Counted}
+use Rattle.cells.specs.CellsEntered.{cellsEntered}
 use Rattle.cells.proofs.Figures.{figure-is, figure-checked}
 use Rattle.plain_run.specs.Rolled.{needed}
 use Rattle.grid_run.specs.declared.GridRolled.{GridRolled}
 use Rattle.grid_run.specs.declared.GridRolled.the-variants.{Rows, Refused}
-use Rattle.grid_run.specs.GridRolled.{gridRolled, CountIn, GridRolls}
+use Rattle.grid_run.specs.GridRolled.{Reported, gridRolled, gridReturns, withRows, GridRolls}
+use Rattle.grid_run.proofs.Outcome.{rows-count}
 use Rattle.stored.specs.Stored.{rowsIn}
 use Rattle.stored.proofs.ReadBack.{roll-back}
 use Rattle.text.specs.Lines.{headOf, refusedOf}
 use Rattle.page.specs.Behind.{Behind}
 use Rattle.page.specs.Rows.{linesOf}
 use Rattle.page.proofs.Putting.{and-behind}
-use Rattle.roll.specs.Answer.{answerOf, Answers}
+use Rattle.roll.specs.Answer.{answerOf}
 use Rattle.roll.proofs.FirstBytes.{Decides, first-bytes}
 
 -- 8 is one of the six figures
@@ -45,7 +45,7 @@ pub record Read (s rows : List ℕ) (n cells : ℕ) : Type 0 where
   pub count : n ≡ length (listing (commandsOf s) .tracks)
   pub few : n ≤ 256
   pub are : rowsIn rows n ≡ rollOf (listing (commandsOf s))
-  pub counted : Counted (timeOf (rollOf (listing (commandsOf s)))) 8 (listing (commandsOf s) .tracks) cells
+  pub counted : cells ≡ cellsEntered (listing (commandsOf s)) 8
 
 module _ (s : List ℕ) (bytes : AllBytes s) {before rows : List ℕ} (long : length before ≡ 7424) {r : GridRolled} (h : GridRolls (verdictOf s) (listing (commandsOf s)) 8 before rows r) where
   abbrev S : Listing
@@ -60,10 +60,19 @@ module _ (s : List ℕ) (bytes : AllBytes s) {before rows : List ℕ} (long : le
   enough : verdictOf s ≡ accepted → needed S ≤ length before
   enough e = omega (arith, long, accepted-records s bytes e .few-tracks)
 
+  returned : gridRolled r .returned ≡ gridReturns (verdictOf s) S 8 (length before)
+  returned = ap (λ (z : Reported). z .returned) (h .answer)
+
+  entered : {n cells : ℕ} → r ≡ Rows n cells → cells ≡ cellsEntered S 8
+  entered {n} {cells} q =
+      let e = sym (ap (λ (z : GridRolled). gridRolled z .cells) q) ∙ ap (λ (z : Reported). z .cells) (h .answer) in
+      let f = sym returned ∙ ap (λ (z : GridRolled). gridRolled z .returned) q in
+      e ∙ ap (λ (z : Returned). withRows z (cellsEntered S 8)) f ∙ rows-count n (cellsEntered S 8)
+
   pub rows-read : {n cells : ℕ} → r ≡ Rows n cells → Read s rows n cells
   rows-read {n} {cells} q =
       let R = rollOf S in
-      let g = gave (needed S) (length before) (length (S .tracks)) v-decided (sym (ap gridRolled q) ∙ h .answer) in
+      let g = gave (needed S) (length before) (length (S .tracks)) v-decided (sym (ap (λ (z : GridRolled). gridRolled z .returned) q) ∙ returned) in
       let ok : verdictOf s ≡ accepted = sym (same-said (verdictOf s)) ∙ g .accepts in
       let acc = accepted-records s bytes ok in
       let x = h .buffer ∙ put (rollBytes R) before (said-given (needed S) (length before) (length (S .tracks)) (g .accepts) (g .room)) in
@@ -73,39 +82,32 @@ module _ (s : List ℕ) (bytes : AllBytes s) {before rows : List ℕ} (long : le
         count = g .count;
         few = omega (arith, g .count, acc .few-tracks);
         are = ap (λ (b : List ℕ). rowsIn b n) x ∙ ap (rowsIn (rollBytes R ++ drop (length (rollBytes R)) before)) (sym c) ∙ roll-back S acc (drop (length (rollBytes R)) before);
-        counted = subst (CountIn S 8) q (h .cells);
+        counted = entered q;
       }
 
   pub as-refused : {n p : ℕ} → r ≡ Refused n p → verdictOf s ≡ refused n p
   as-refused q =
       sym (same-said (verdictOf s))
-      ∙ refused-so (needed S) (length before) (length (S .tracks)) v-decided (λ e. enough (sym (same-said (verdictOf s)) ∙ e)) (sym (ap gridRolled q) ∙ h .answer)
+      ∙ refused-so (needed S) (length before) (length (S .tracks)) v-decided (λ e. enough (sym (same-said (verdictOf s)) ∙ e)) (sym (ap (λ (z : GridRolled). gridRolled z .returned) q) ∙ returned)
 
 module _ (s : List ℕ) {out exit : List ℕ} {end : ℕ} where
-  pub prints-roll : {rows mid : List ℕ} {at n cells : ℕ} → Read s rows n cells → Behind (headOf n cells) 0 out at mid → Behind (linesOf (rowsIn rows n)) at mid end exit → Answers s (take end exit)
+  pub prints-roll : {rows mid : List ℕ} {at n cells : ℕ} → Read s rows n cells → Behind (headOf n cells) 0 out at mid → Behind (linesOf (rowsIn rows n)) at mid end exit → take end exit ≡ answerOf (verdictOf s) (listing (commandsOf s))
   unfolding answerOf
-  prints-roll {cells = cells} d h k =
-      let S = listing (commandsOf s) in
-      let b = and-behind h k in
-      record {
-        cells = cells;
-        counted = λ e. d .counted;
-        is = b .is ∙ rw (d .accepts, d .are, d .count) refl;
-      }
+  prints-roll d h k = and-behind h k .is ∙ rw (d .accepts, d .are, d .count, d .counted) refl
 
-  pub prints-refusal : {n p : ℕ} → verdictOf s ≡ refused n p → Behind (refusedOf n p) 0 out end exit → Answers s (take end exit)
+  pub prints-refusal : {n p : ℕ} → verdictOf s ≡ refused n p → Behind (refusedOf n p) 0 out end exit → take end exit ≡ answerOf (verdictOf s) (listing (commandsOf s))
   unfolding answerOf
-  prints-refusal e b = record { cells = 0; counted = λ f. absurd (let g = sym e ∙ f in let z : _≡_ {A = ℕ} 0 1 = cc in omega arith); is = b .is ∙ rw e refl }
+  prints-refusal e b = b .is ∙ rw e refl
 
 -- the text for the first n bytes of a sheet is the text for the sheet
-pub reads-enough : (n : ℕ) (s text : List ℕ) → 5131 ≤ n → Answers (take n s) text → Answers s text
+pub reads-enough : (n : ℕ) (s : List ℕ) → 5131 ≤ n → answerOf (verdictOf (take n s)) (listing (commandsOf (take n s))) ≡ answerOf (verdictOf s) (listing (commandsOf s))
 unfolding answerOf
-reads-enough n s text h a = go (verdictOf s) refl (decided s)
+reads-enough n s h = go (verdictOf s) refl (decided s)
   where
     d : Decides n s
     d = first-bytes n s h
 
-    go : (v : Returned) → verdictOf s ≡ v → Decided v → Answers s text
-    go accepted e k = subst (λ (z : List ℕ). Answers z text) (d .whole e) a
+    go : (v : Returned) → verdictOf s ≡ v → Decided v → answerOf (verdictOf (take n s)) (listing (commandsOf (take n s))) ≡ answerOf (verdictOf s) (listing (commandsOf s))
+    go accepted e k = ap (λ (z : List ℕ). answerOf (verdictOf z) (listing (commandsOf z))) (d .whole e)
     go (gives m) e k = absurd k
-    go (refused m p) e k = record { cells = 0; counted = λ f. absurd (let g = sym e ∙ f in let z : _≡_ {A = ℕ} 0 1 = cc in omega arith); is = a .is ∙ rw (d .verdict, e) refl }
+    go (refused m p) e k = rw (d .verdict, e) refl

@@ -1,8 +1,11 @@
 // Reads a sheet from standard input and prints its roll, or its refusal (document 01, "Sheets to try"). The rows are the grid run's, the
 // lines are put one behind the other in crate `page`; `answer` says what is printed.
+ghost use mathlib.Core.Path.{_≡_};
 ghost use Prim.Native.Nat.{_≤_};
 ghost use lib.ListN.{length, take};
-ghost use Rattle.roll.specs.Answer.{Answers};
+ghost use Rattle.sheet.specs.Listing.{listing};
+ghost use Rattle.sheet.specs.Scan.{verdictOf, commandsOf};
+ghost use Rattle.roll.specs.Answer.{answerOf};
 use grid_run::GridRolled;
 use libc::STDIN_FILENO;
 use libc::STDOUT_FILENO;
@@ -10,7 +13,7 @@ use libc::STDOUT_FILENO;
 // The text for a sheet. The roll of 256 tracks is 7,424 bytes long, its lines at most 37,632.
 fn answer(sheet: &[u8], out: &mut [u8]) -> usize
     requires { ⌜ 40960 ≤ length (now out) ⌝ }
-    ensures { λ r. ⌜ Answers (now (sheet .entry)) (take r (now (out .exit))) × (r ≤ length (now (out .exit))) ⌝ }
+    ensures { λ r. ⌜ (take r (now (out .exit)) ≡ answerOf (verdictOf (now (sheet .entry))) (listing (commandsOf (now (sheet .entry))))) × (r ≤ length (now (out .exit))) ⌝ }
 {
     let mut rows = [0u8; 7424];
     let rolled = grid_run::grid_roll_bytes(sheet, 8, &mut rows);

@@ -38,9 +38,11 @@ use Rattle.turn.proofs.Ended.{runs-on, runs-before, ends-next, out-next, rows-n
 use Rattle.cells.specs.declared.Cell.{Cell}
 use Rattle.cells.specs.Grid.{InCell}
 use Rattle.cells.specs.Touched.{CellsOf}
-use Rattle.cells.proofs.Cut.{_≤ᶜ_, _<ᶜ_, past, not-past}
+use Rattle.cells.specs.Cut.{past}
+use Rattle.cells.specs.OneCell.{entry, exit}
+use Rattle.cells.proofs.Cut.{_≤ᶜ_, _<ᶜ_, not-past}
 use Rattle.cells.proofs.Entered.{Entered, entered-last}
-use Rattle.cells.proofs.Entry.{entry, exit, cell-entry, cell-exit}
+use Rattle.cells.proofs.Entry.{cell-entry, cell-exit}
 use Rattle.cells.proofs.Points.{shared, placed}
 use Rattle.heap.specs.Key.{NotAfter}
 use Rattle.pending.specs.Pending.{pendingKey}

@@ -25,10 +25,12 @@ use Rattle.causes.specs.Looked.{Named}
 use Rattle.table.specs.Table.{causeAt}
 use Rattle.cells.specs.declared.Cell.{Cell}
 use Rattle.cells.specs.Grid.{Figure, side, InCell}
-use Rattle.cells.proofs.Cut.{Cut, _≤ᶜ_, _<ᶜ_, past, not-past, by-past, ≤ᶜ-or-<ᶜ, ≤ᶜ-trans, ≤ᶜ-<ᶜ-trans, after-mono, sooner-by}
+use Rattle.cells.specs.Cut.{Cut, past}
+use Rattle.cells.specs.OneCell.{entry, exit}
+use Rattle.cells.proofs.Cut.{_≤ᶜ_, _<ᶜ_, not-past, by-past, ≤ᶜ-or-<ᶜ, ≤ᶜ-trans, ≤ᶜ-<ᶜ-trans, after-mono, sooner-by}
 use Rattle.cells.proofs.Count.{first, first-in, stay-rim, figure-side}
 use Rattle.cells.proofs.Entered.{Entered, entered-next}
-use Rattle.cells.proofs.Entry.{entry, exit, cell-entry, point-of, past-before, before-past}
+use Rattle.cells.proofs.Entry.{cell-entry, point-of, past-before, before-past}
 use Rattle.cells.proofs.Points.{shared, placed, in-grid}
 use Rattle.cells.proofs.Walk.{next, Good, Stepped, stepped}
 use Rattle.heap.specs.Key.{NotAfter}
@@ -94,8 +96,8 @@ module _ {S : Listing} (acc : Accepted S) {g : ℕ} (fig : Figure g) (some-side 
   on-sheet : exit a s k <ᶜ past (rim a)
   on-sheet = past-before (after-mono by-rim (before-past soon))
 
-  step : Stepped a (rim a) s g k (next a s k)
-  step = stepped a (rim a) s g some-side (figure-side fig) (stay-rim acc on (≤ᵗ-refl (rim a))) k (now .good) on-sheet
+  pub next-stepped : Stepped a (rim a) s g k (next a s k)
+  next-stepped = stepped a (rim a) s g some-side (figure-side fig) (stay-rim acc on (≤ᵗ-refl (rim a))) k (now .good) on-sheet
 
   pub next-entered : Entered a (rim a) s (next a s k) (next a s k ∷ cellsAt es r)
   next-entered = entered-next g some-side (figure-side fig) (stay-rim acc on (≤ᵗ-refl (rim a))) on-sheet now
@@ -106,7 +108,7 @@ module _ {S : Listing} (acc : Accepted S) {g : ℕ} (fig : Figure g) (some-side 
     where
       go : (past u ≤ᶜ exit a s k) ⊎ (exit a s k <ᶜ past u) → entry a s (next a s k) <ᶜ past u
       go (inl h) = absurd (<ᵗ-irrefl (<ᵗ-≤ᵗ-trans (between (exit a s k) h soon) (f h)))
-      go (inr h) = ≤ᶜ-<ᶜ-trans (step .since) h
+      go (inr h) = ≤ᶜ-<ᶜ-trans (next-stepped .since) h
 
   inside : (u : Time) → past u ≤ᶜ exit a s k → (c : Cell) × InCell a s c u × (c ∈ cellsAt es r)
   inside u h =

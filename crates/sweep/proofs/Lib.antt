@@ -3,6 +3,7 @@ pub mod Stores
 pub mod Queue
 pub mod Ending
 pub mod Entering
+pub mod EntryTime
 pub mod Meeting
 pub mod ToDo
 pub mod Run

@@ -1,4 +1,4 @@
--- The events of the grid run. Main theorems: `way-open` (a tip begins), `way-next` (a cell is entered), `again-state` (a cause no longer counts), `ended-state` (a tip ends).
+-- The events of the grid run. Main theorems: `way-open` (a tip begins), `way-next` (a cell is entered), `entry-time` (at the time of its key), `again-state` (a cause no longer counts), `ended-state` (a tip ends).
 use mathlib.Core.List.{List, [], _∷_, List·Memᴰ·not-nil}
 use mathlib.Core.Logic.{inl, inr, _≢_}
 use mathlib.Core.Path.{_≡_, refl, sym, ap, _∙_, subst}
@@ -17,6 +17,8 @@ use Rattle.rule.specs.declared.Row.{Row}
 use Rattle.rule.specs.Causes.{rowOf}
 use Rattle.rule.specs.EdgeTime.{rim}
 use Rattle.rule.specs.Motion.{Inside}
+use Rattle.rule.specs.Rows.{timeOf}
+use Rattle.rule.specs.Selection.{rollOf}
 use Rattle.rule.proofs.Turn.{Live}
 use Rattle.lines.specs.Lines.{trackAt}
 use Rattle.lines.proofs.Places.{tracks-count, track-read}
@@ -32,10 +34,12 @@ use Rattle.turn.specs.LookedAgain.{LookedAgain}
 use Rattle.turn.proofs.Counting.{counts-live, live-counts}
 use Rattle.cells.specs.declared.Cell.{Cell}
 use Rattle.cells.specs.Grid.{Figure, g1, g2, g4, g8, g16, g32, side}
+use Rattle.cells.specs.EnteredAt.{EnteredAt}
 use Rattle.cells.proofs.Count.{first, first-good, stay-rim}
 use Rattle.cells.proofs.Entered.{Entered, entered-first, entered-few}
 use Rattle.cells.proofs.Walk.{next}
-use Rattle.heap.specs.Key.{NotAfter, keyAt}
+use Rattle.heap.specs.declared.Key.{Key}
+use Rattle.heap.specs.Key.{time, NotAfter, keyAt}
 use Rattle.heap.specs.Queue.{Pushed, Popped}
 use Rattle.pending.specs.Pending.{pendingKey}
 use Rattle.sweep.specs.State.{spotAt, cellsAt, Looked, Marked, Placed, Queued, Rows}
@@ -43,7 +47,8 @@ use Rattle.sweep.specs.Run.{State, Way}
 use Rattle.sweep.specs.ToDo.{Sure}
 use Rattle.sweep.proofs.Stores.{store-best, again-best, open-tip}
 use Rattle.sweep.proofs.Queue.{queue-kept, queue-pushed, queue-open, queue-ended, queue-popped, popped-begun, popped-runs, popped-key, popped-before, none-out}
-use Rattle.sweep.proofs.Entering.{first-ahead, good-in, next-entered, next-ahead}
+use Rattle.sweep.proofs.Entering.{first-ahead, good-in, next-stepped, next-entered, next-ahead}
+use Rattle.sweep.proofs.EntryTime.{known-roll, cell-time}
 use Rattle.sweep.proofs.Ending.{ending-inside, ending-row, looked-ended, placed-ended, rows-ended}
 
 pub figure-in : {g : ℕ} → Figure g → (0 < side g) × (side g ≤ 4096) × (g ≤ 32)
@@ -190,6 +195,14 @@ module _ {S : Listing} {done : List Row} {es : List (List Cell)} {starts speeds 
           queued = queue-popped few (st .queued) po;
           pending-in = omega (arith, st .queued .pending .places .small, po .gone .tip-in);
         }
+
+    -- when
+    pub entry-time : {k : ℕ} → Rows S done k → EnteredAt (tipAt S r) (timeOf (rollOf S) (tipAt S r .id)) s (next (tipAt S r) s (spotAt spots r)) (time (keyAt keys r))
+    entry-time rows =
+        subst (λ (x : Key). EnteredAt (tipAt S r) (timeOf (rollOf S) (tipAt S r .id)) s (next (tipAt S r) s (spotAt spots r)) (time x)) (sym event-key)
+        (cell-time (st .lined .accepted) (known-roll rows) (mem-at noTrack (S .tracks) r here-all) (causeAt table r) (st .looked .fine r event-here)
+        (next-stepped (st .lined .accepted) fig (figure-in fig .0) looked-all marked-all placed-all r here-all event-runs entry (λ j h. popped-before few (st .queued) po j (omega (arith, many, h))))
+        (way-next .ahead) entry)
 
   -- something is reached
   module _ (late : pendingKey (tipAt S r) s (spotAt spots r) (causeAt table r) .late ≡ 1) where

@@ -23,9 +23,10 @@ use Rattle.causes.specs.Looked.{Near, endAt, Ends, Named}
 use Rattle.table.specs.Table.{causeAt}
 use Rattle.cells.specs.declared.Cell.{Cell}
 use Rattle.cells.specs.Touched.{CellsOf}
-use Rattle.cells.proofs.Cut.{_<ᶜ_, past}
+use Rattle.cells.specs.Cut.{past}
+use Rattle.cells.specs.OneCell.{entry}
+use Rattle.cells.proofs.Cut.{_<ᶜ_}
 use Rattle.cells.proofs.Entered.{Entered}
-use Rattle.cells.proofs.Entry.{entry}
 use Rattle.heap.specs.Key.{keyAt}
 use Rattle.heap.specs.Queue.{Pending, Absent, Present}
 use Rattle.pending.specs.Pending.{pendingKey}

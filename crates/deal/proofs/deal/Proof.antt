@@ -1,5 +1,5 @@
 -- `deal` deals with each kind of event.
-use Rattle.deal.proofs.Cases.{cell-comes, cell-came, cells-in, track-reached, wall-reached, edge-reached}
+use Rattle.deal.proofs.Cases.{cell-comes, cell-came, cells-in, in-time, track-reached, wall-reached, edge-reached}
 use borrow.Author.Needs.{needs}
 use Prim.Native.Nat.{_-_}
 use Rattle.deal.proofs.deal.Statement.{statement}
@@ -83,7 +83,7 @@ same-length-8 c = search needs
 returns : tie.Need-returns
 returns c S g before d e =
     let f = c .before .before .before .before .before .before .before .before .before .before .before .before .before .before .before .before .before .before .before .before .before .before .before .before .event .given .1 in
-    cell-came g d e f (c .before .before .before .before .before .before .before .before .before .before .before .before .before .before .enter .ensures S (d .popping .going .done) (d .popping .going .es) (c .before .before .before .before .before .before .before .before .before .before .before .before .before .before .before .before .before .before .before .before .before .before .before .before .before .before .before .before .before .before .before .before .before .before .before .before .before .before .args .n) (cell-comes g d e f))
+    (cell-came g d e f (c .before .before .before .before .before .before .before .before .before .before .before .before .before .before .enter .ensures S (d .popping .going .done) (d .popping .going .es) (c .before .before .before .before .before .before .before .before .before .before .before .before .before .before .before .before .before .before .before .before .before .before .before .before .before .before .before .before .before .before .before .before .before .before .before .before .before .before .args .n) (cell-comes g d e f)), in-time g d)
 
 same-length-9 : tie.Need-same-length-9
 same-length-9 c = search needs
@@ -112,7 +112,7 @@ same-length-16 c = search needs
 returns-2 : tie.Need-returns-2
 returns-2 c S g before d e =
     let a = c .before .before .before .before .before .before .before .before .before .before .before .before .before .before .before .before .before .before .before .before .before .before .before .before .before .before .before .before .before .before .before .before .before .before .before .args in
-    c .before .before .before .before .before .before .before .before .before .before .before .before .reach .ensures S (a .walls .now) (a .m) g (a .lists .now) before (track-reached g d (c .before .before .before .before .before .before .before .before .before .before .before .before .before .before .before .before .before .before .before .before .before .enum-told .given .1)) e
+    (c .before .before .before .before .before .before .before .before .before .before .before .before .reach .ensures S (a .walls .now) (a .m) g (a .lists .now) before (track-reached g d (c .before .before .before .before .before .before .before .before .before .before .before .before .before .before .before .before .before .before .before .before .before .enum-told .given .1)) e, in-time g d)
 
 same-length-17 : tie.Need-same-length-17
 same-length-17 c = search needs
@@ -142,7 +142,7 @@ returns-3 : tie.Need-returns-3
 returns-3 c S g before d e =
     let a = c .before .before .before .before .before .before .before .before .before .before .before .before .before .before .before .before .before .before .before .before .before .before .before .before .before .before .before .args in
     let r = wall-reached g d (c .before .before .before .before .before .before .before .before .before .before .before .before .before .enum-told2 .given .1) in
-    c .before .before .before .before .end-tip .ensures S (a .walls .now) (a .m) g (a .lists .now) before (r .0) (r .1)
+    (c .before .before .before .before .end-tip .ensures S (a .walls .now) (a .m) g (a .lists .now) before (r .0) (r .1), in-time g d)
 
 same-length-25 : tie.Need-same-length-25
 same-length-25 c = search needs
@@ -172,7 +172,7 @@ returns-4 : tie.Need-returns-4
 returns-4 c S g before d e =
     let a = c .before .before .before .before .before .before .before .before .before .before .before .before .before .before .before .before .before .before .before .before .before .before .before .before .before .before .before .args in
     let r = edge-reached g d (c .before .before .before .before .before .before .before .before .before .before .before .before .before .enum-told3 .given .1) in
-    c .before .before .before .before .end-tip2 .ensures S (a .walls .now) (a .m) g (a .lists .now) before (r .0) (r .1)
+    (c .before .before .before .before .end-tip2 .ensures S (a .walls .now) (a .m) g (a .lists .now) before (r .0) (r .1), in-time g d)
 
 pub deal-spec : {M : Type 1} → statement M
 deal-spec =
