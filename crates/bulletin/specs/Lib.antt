@@ -1,1 +1,1 @@
-pub mod FirstRows
+pub mod Bulletin

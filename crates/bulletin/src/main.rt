@@ -1,12 +1,16 @@
 // A bulletin: the first three endings on a sheet, and how many tracks then still run; or the sheet's refusal.
 //     target/bin/bulletin < examples/E.sheet
-// The smallest whole program over the interface crate `fissures`.
-ghost use Rattle.bulletin.specs.FirstRows.{Shows};
+// The smallest whole program over the interface crate `fissures`; `bulletin` says what is printed.
+ghost use mathlib.Core.Path.{_≡_};
+ghost use Prim.Native.Nat.{_+_, _≤_};
+ghost use lib.ListN.{length, take};
+ghost use Rattle.sheet.specs.HandedIn.{checkOf};
+ghost use Rattle.session.specs.Stepping.{runningOf};
+ghost use Rattle.page.specs.Behind.{Behind};
+ghost use Rattle.bulletin.specs.Bulletin.{Shows, runningText, bulletinOf};
 use fissures::Advanced;
 use fissures::Rolled;
 use fissures::Session;
-use fissures::Stored;
-use fissures::Text;
 use fissures::Verdict;
 use libc::STDIN_FILENO;
 use libc::STDOUT_FILENO;
@@ -28,55 +32,33 @@ fn first_rows(sheet: &[u8], n: usize, rows: &mut [u8]) -> Advanced
     }
 }
 
-// A line's buffer of 160 bytes is always long enough.
-fn print(line: &[u8], text: Text) {
-    match text {
-        Text::Length(n) => {
-            if n <= line.len() {
-                io::write_all(STDOUT_FILENO, &line[..n]);
-            }
-        }
-        Text::Refused(_, _) => {}
-    }
-}
-
-// Row k, if there is one.
-fn print_row(rows: &[u8], k: usize) {
-    let mut line = [0u8; 160];
-    let stored = fissures::row_at(rows, k);
-    match stored {
-        Stored::Found(row) => {
-            let text = fissures::line(row, &mut line);
-            print(&line, text);
-        }
-        Stored::Nothing => {}
-    }
-}
-
-fn print_refusal(number: u8, place: usize) {
-    let mut line = [0u8; 160];
-    let text = fissures::refusal(number, place, &mut line);
-    print(&line, text);
-}
-
-// The first n rows.
-fn print_rows(rows: &[u8], n: usize) {
-    let mut k = 0;
-    while k < n {
-        print_row(rows, k);
-        k += 1;
-    }
-}
-
-// How many tracks still run.
-fn print_running(session: Session) {
+// How many tracks still run: a line of 35 bytes at most.
+fn put_running(session: Session, at: usize, out: &mut [u8]) -> usize
+    requires { ⌜ at + 35 ≤ length (now out) ⌝ }
+    ensures { λ r. ⌜ Behind (runningText (runningOf (checkOf (session .sheet)) session)) at (now (out .entry)) r (now (out .exit)) ⌝ }
+{
     let running = session.running();
     match running {
+        Rolled::Rows(n) => page::put_running(n, at, out),
+        Rolled::Refused(_, _) => at,
+    }
+}
+
+// The text for a sheet: three rows have 87 bytes, and their lines at most 441.
+fn bulletin(sheet: &[u8], out: &mut [u8]) -> usize
+    requires { ⌜ 476 ≤ length (now out) ⌝ }
+    ensures { λ r. ⌜ (take r (now (out .exit)) ≡ bulletinOf (now (sheet .entry))) × (r ≤ length (now (out .exit))) ⌝ }
+{
+    let mut rows = [0u8; 87];
+    let shown = first_rows(sheet, 3, &mut rows);
+    let session = shown.session;
+    let answer = shown.answer;
+    match answer {
         Rolled::Rows(n) => {
-            io::print_decimal(STDOUT_FILENO, n as u64);
-            io::write_all(STDOUT_FILENO, b" still running\n");
+            let at = page::put_rows(&rows, n, 0, out);
+            put_running(session, at, out)
         }
-        Rolled::Refused(number, place) => print_refusal(number, place),
+        Rolled::Refused(number, place) => page::put_refusal(number, place, out),
     }
 }
 
@@ -84,15 +66,7 @@ fn print_running(session: Session) {
 fn main() {
     let mut sheet = [0u8; 5132];
     let length = io::read_full(STDIN_FILENO, &mut sheet);
-    let mut rows = [0u8; 87];
-    let shown = first_rows(&sheet[..length], 3, &mut rows);
-    let session = shown.session;
-    let answer = shown.answer;
-    match answer {
-        Rolled::Rows(n) => {
-            print_rows(&rows, n);
-            print_running(session);
-        }
-        Rolled::Refused(number, place) => print_refusal(number, place),
-    }
+    let mut out = [0u8; 512];
+    let n = bulletin(&sheet[..length], &mut out);
+    io::write_all(STDOUT_FILENO, &out[..n]);
 }

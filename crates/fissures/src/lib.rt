@@ -32,6 +32,7 @@ pub use text::Text;
 pub use text::head;
 pub use text::line;
 pub use text::refusal;
+pub use text::still_running;
 
 // The stepping session, the partner's name, the tracks of a cell.
 pub use listing::Listed;

@@ -1,9 +1,9 @@
 -- What `roll` prints. Main theorems: `prints-roll`, the head and the lines of the roll's own rows; `prints-refusal`; `reads-enough`, the first 5,131 bytes of the input decide what is printed.
 use mathlib.Core.Path.{_≡_, refl, sym, ap, _∙_, subst}
 use mathlib.Core.List.{List, _++_}
-use Prim.Native.Nat.{ℕ, _+_, _*_, _≤_}
+use Prim.Native.Nat.{ℕ, _≤_}
 use native.Mathlib.Omega.{arith}
-use lib.ListN.{length, take, drop, length-append, length-take}
+use lib.ListN.{length, take, drop}
 use Rattle.layout.specs.Bytes.{AllBytes}
 use Rattle.sheet.specs.Lent.{andThen}
 use Rattle.sheet.specs.Listing.{Listing, listing}
@@ -15,7 +15,6 @@ use Rattle.sheet.proofs.RoundTrip.{accepted-records}
 use Rattle.rule.specs.RowBytes.{rollBytes}
 use Rattle.rule.specs.Selection.{rollOf}
 use Rattle.rule.proofs.Existence.{roll-length}
-use Rattle.rule.proofs.RowBytes.{roll-bytes-length}
 use Rattle.cells.specs.Grid.{figureCheck, g8}
 use Rattle.cells.specs.CellsEntered.{cellsEntered}
 use Rattle.cells.proofs.Figures.{figure-is, figure-checked}
@@ -27,10 +26,11 @@ use Rattle.grid_run.proofs.Outcome.{rows-count}
 use Rattle.stored.specs.Stored.{rowsIn}
 use Rattle.stored.proofs.ReadBack.{roll-back}
 use Rattle.text.specs.Lines.{headOf, refusedOf}
-use Rattle.roll.specs.Answer.{linesOf, answerOf}
-use Rattle.roll.specs.Behind.{Behind}
+use Rattle.page.specs.Behind.{Behind}
+use Rattle.page.specs.Rows.{linesOf}
+use Rattle.page.proofs.Putting.{and-behind}
+use Rattle.roll.specs.Answer.{answerOf}
 use Rattle.roll.proofs.FirstBytes.{Decides, first-bytes}
-use Rattle.roll.proofs.Putting.{and-behind}
 
 -- 8 is one of the six figures
 same-said : (v : Returned) → andThen v (figureCheck 8) ≡ v
@@ -44,7 +44,6 @@ pub record Read (s rows : List ℕ) (n cells : ℕ) : Type 0 where
   pub accepts : verdictOf s ≡ accepted
   pub count : n ≡ length (listing (commandsOf s) .tracks)
   pub few : n ≤ 256
-  pub room : 29 * n ≤ length rows
   pub are : rowsIn rows n ≡ rollOf (listing (commandsOf s))
   pub counted : cells ≡ cellsEntered (listing (commandsOf s)) 8
 
@@ -82,7 +81,6 @@ module _ (s : List ℕ) (bytes : AllBytes s) {before rows : List ℕ} (long : le
         accepts = ok;
         count = g .count;
         few = omega (arith, g .count, acc .few-tracks);
-        room = omega (arith, ap length x, length-append (rollBytes R) (drop (length (rollBytes R)) before), roll-bytes-length R, c);
         are = ap (λ (b : List ℕ). rowsIn b n) x ∙ ap (rowsIn (rollBytes R ++ drop (length (rollBytes R)) before)) (sym c) ∙ roll-back S acc (drop (length (rollBytes R)) before);
         counted = entered q;
       }
@@ -100,10 +98,6 @@ module _ (s : List ℕ) {out exit : List ℕ} {end : ℕ} where
   pub prints-refusal : {n p : ℕ} → verdictOf s ≡ refused n p → Behind (refusedOf n p) 0 out end exit → take end exit ≡ answerOf (verdictOf s) (listing (commandsOf s))
   unfolding answerOf
   prints-refusal e b = b .is ∙ rw e refl
-
--- the text's end is in the buffer
-pub within : {text before exit : List ℕ} {end : ℕ} → Behind text 0 before end exit → end ≤ length exit
-within {exit = exit} {end} b = omega (arith, ap length (b .is), length-take end exit, b .long)
 
 -- the text for the first n bytes of a sheet is the text for the sheet
 pub reads-enough : (n : ℕ) (s : List ℕ) → 5131 ≤ n → answerOf (verdictOf (take n s)) (listing (commandsOf (take n s))) ≡ answerOf (verdictOf s) (listing (commandsOf s))

@@ -1,18 +1,13 @@
 -- What `roll` prints (document 01, "Sheets to try").
-use mathlib.Core.List.{List, [], _∷_, _++_}
+use mathlib.Core.List.{List, [], _++_}
 use Prim.Native.Nat.{ℕ}
 use lib.ListN.{length}
 use Rattle.sheet.specs.Listing.{Listing}
 use Rattle.sheet.specs.Returned.{Returned, accepted, gives, refused}
-use Rattle.rule.specs.declared.Row.{Row}
 use Rattle.rule.specs.Selection.{rollOf}
 use Rattle.cells.specs.CellsEntered.{cellsEntered}
-use Rattle.text.specs.Lines.{lineOf, headOf, refusedOf}
-
--- "Then id, kind, partner, time, x and y in 64ths.": a line for each row
-unfoldable pub linesOf : List Row → List ℕ
-linesOf [] = []
-linesOf (r ∷ l) = lineOf r ++ linesOf l
+use Rattle.text.specs.Lines.{headOf, refusedOf}
+use Rattle.page.specs.Rows.{linesOf}
 
 -- for a sheet with a verdict and its records: the tracks and the cells entered on the grid of figure 8, then the rows of the roll; or the refusal
 unfoldable pub answerOf : Returned → Listing → List ℕ

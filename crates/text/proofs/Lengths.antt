@@ -1,11 +1,11 @@
--- How long the lines are: `line-short`, `head-short`, `refusal-short`.
+-- How long the lines are: `line-short`, `head-short`, `refusal-short`, `still-short`.
 use Prim.Native.Nat.{ℕ, _≤_, _<_}
 use native.Mathlib.Omega.{arith}
 use lib.ListN.{length, length-append}
 use Rattle.rule.specs.declared.Row.{Row}
 use Rattle.rule.specs.RowBytes.{kindOf, partnerOf, RowFits}
 use Rattle.rule.proofs.RowBytes.{kind-in}
-use Rattle.text.specs.Lines.{field, lineOf, headOf, refusedOf}
+use Rattle.text.specs.Lines.{field, lineOf, headOf, refusedOf, stillOf}
 use Rattle.text.proofs.Decimal.{decimal-short}
 
 field-short : (v mark : ℕ) → v < 18446744073709551616 → length (field v mark) ≤ 21
@@ -37,3 +37,7 @@ refusal-short number place h k =
     let n = field-short number 32 h in
     let p = field-short place 10 k in
     simp length-append (omega arith)
+
+pub still-short : (tracks : ℕ) → tracks < 18446744073709551616 → length (stillOf tracks) ≤ 35
+unfolding stillOf
+still-short tracks h = let t = field-short tracks 32 h in simp length-append (omega arith)

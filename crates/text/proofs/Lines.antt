@@ -9,7 +9,7 @@ use lib.Seq.{length-take-le, take-suc-set, take-suc, take-all}
 use Rattle.rule.specs.declared.Row.{Row}
 use Rattle.rule.specs.RowBytes.{kindOf, partnerOf}
 use Rattle.text.specs.declared.Draft.{Draft}
-use Rattle.text.specs.Lines.{decimal, field, lineOf, headOf, refusedOf, tracksWord, cellsWord, refusedWord}
+use Rattle.text.specs.Lines.{decimal, field, lineOf, headOf, refusedOf, stillOf, tracksWord, cellsWord, refusedWord, runningWord}
 use Rattle.text.specs.Held.{textIn, Holds, Room}
 use Rattle.text.proofs.Decimal.{decimal-one, decimal-more, decimal-short}
 
@@ -145,3 +145,7 @@ refusal-done number place h0 h1 h2 h3 =
     let g2 = behind g1 (field number 32) h2 in
     let g3 = behind g2 (field place 10) h3 in
     g3
+
+pub still-done : (tracks : ℕ) {l0 l1 l2 : Draft} → Holds [] l0 → Holds (textIn l0 ++ field tracks 32) l1 → Holds (textIn l1 ++ runningWord) l2 → Holds (stillOf tracks) l2
+unfolding stillOf
+still-done tracks h0 h1 h2 = behind (behind h0 (field tracks 32) h1) runningWord h2

@@ -49,3 +49,11 @@ headOf tracks cells = tracksWord ++ field tracks 32 ++ cellsWord ++ field cells 
 -- `refused 11 9`
 unfoldable pub refusedOf : ℕ → ℕ → List ℕ
 refusedOf number place = refusedWord ++ field number 32 ++ field place 10
+
+-- "still running" and the newline
+abbrev pub runningWord : List ℕ
+runningWord = 115 ∷ 116 ∷ 105 ∷ 108 ∷ 108 ∷ 32 ∷ 114 ∷ 117 ∷ 110 ∷ 110 ∷ 105 ∷ 110 ∷ 103 ∷ 10 ∷ []
+
+-- `1 still running`
+unfoldable pub stillOf : ℕ → List ℕ
+stillOf tracks = field tracks 32 ++ runningWord

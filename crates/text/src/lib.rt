@@ -1,9 +1,9 @@
-// The lines that program `roll` prints (document 01, "Sheets to try"). A line is put together in a buffer of its own, then copied to the caller's.
+// The lines that programs `roll` (document 01, "Sheets to try") and `bulletin` print. A line is put together in a buffer of its own, then copied to the caller's.
 ghost use mathlib.Core.Path.{_≡_};
 ghost use mathlib.Core.List.{[], _∷_, _++_};
 ghost use Prim.Native.Nat.{_+_, _≤_};
 ghost use lib.ListN.{length};
-ghost use Rattle.text.specs.Lines.{decimal, field, lineOf, headOf, refusedOf};
+ghost use Rattle.text.specs.Lines.{decimal, field, lineOf, headOf, refusedOf, stillOf};
 ghost use Rattle.text.specs.Printed.{Prints};
 ghost use Rattle.text.specs.Held.{textIn, Holds, Room};
 use rule::Row;
@@ -105,6 +105,12 @@ fn refusal_line(number: u8, place: usize) -> Draft
     put_field(left, place as u64, b'\n')
 }
 
+fn running_line(tracks: u64) -> Draft
+    ensures { λ r. ⌜ Holds (stillOf tracks) r ⌝ }
+{
+    word(put_field(empty(), tracks, b' '), b"still running\n")
+}
+
 // The line copied to the lent buffer, or 12.
 fn give(line: Draft, out: &mut [u8]) -> Text
     requires { ⌜ Room line 0 ⌝ }
@@ -141,4 +147,11 @@ pub fn refusal(number: u8, place: usize, out: &mut [u8]) -> Text
     ensures { λ r. ⌜ Prints (refusedOf number place) (now (out .entry)) (now (out .exit)) r ⌝ }
 {
     give(refusal_line(number, place), out)
+}
+
+// The line of the number of tracks that still run.
+pub fn still_running(tracks: u64, out: &mut [u8]) -> Text
+    ensures { λ r. ⌜ Prints (stillOf tracks) (now (out .entry)) (now (out .exit)) r ⌝ }
+{
+    give(running_line(tracks), out)
 }

@@ -35,7 +35,7 @@ returns-2 : tie.Need-returns-2
 returns-2 c =
     let z = c .before .before .before .before .before .before .before .args in
     let o = c .before .before .before .before .«open» .ensures in
-    not-opened (z .sheet .now) (z .n) (z .rows .now) (sym (o .answer) ∙ ap verdict (c .before .verdict .given .1)) refl
+    not-opened (z .sheet .now) (z .n) (z .rows .now) (sym (o .answer) ∙ ap verdict (c .before .verdict .given .1)) refl (o .session)
 
 pub first-rows-spec : {M : Type 1} → statement M
 first-rows-spec = tie.close (tie.spec open-requires enum-told advance-requires enum-known-verdict same-length returns returns-2)

@@ -4,8 +4,8 @@ use native.Mathlib.Omega.{arith}
 use lib.ListN.{length-replicate}
 use borrow.Author.Needs.{needs}
 use Rattle.layout.proofs.Bytes.{slice-bytes}
-use Rattle.roll.proofs.Answered.{rows-read, as-refused, prints-roll, prints-refusal, within}
-use Rattle.roll.proofs.Putting.{and-behind}
+use Rattle.roll.proofs.Answered.{rows-read, as-refused, prints-roll, prints-refusal}
+use Rattle.page.proofs.Putting.{and-behind, within}
 use Rattle.roll.proofs.answer.Statement.{statement}
 use Rattle.roll.proofs.answer.Tie as tie
 
@@ -28,7 +28,7 @@ put-rows-requires : tie.Need-put-rows-requires
 put-rows-requires c κs =
     let d = rows-read (c .before .before .before .before .before .before .before .before .before .before .before .before .before .before .args .sheet .now) (slice-bytes _ (c .before .before .before .before .before .before .before .before .before .before .before .before .before .shared-slice-known .given)) (length-replicate {A = ℕ} 7424 0) (c .before .before .before .before .before .before .before .before .before .before .grid-roll-bytes .ensures) (c .before .before .before .before .before .before .before .rolled .given .1) in
     let h = c .before .before .before .before .put-head .ensures in
-    (d .room, omega (arith, d .few, h .1), omega (arith, c .before .before .before .before .before .before .before .before .before .before .before .before .before .before .pre, h .0 .same))
+    omega (arith, d .few, h .1, c .before .before .before .before .before .before .before .before .before .before .before .before .before .before .pre, h .0 .same)
 
 enum-known-rolled-2 : tie.Need-enum-known-rolled-2
 enum-known-rolled-2 c = search needs
@@ -43,7 +43,7 @@ returns : tie.Need-returns
 returns c =
     let d = rows-read (c .before .before .before .before .before .before .before .before .before .before .before .before .before .before .before .before .before .args .sheet .now) (slice-bytes _ (c .before .before .before .before .before .before .before .before .before .before .before .before .before .before .before .before .shared-slice-known .given)) (length-replicate {A = ℕ} 7424 0) (c .before .before .before .before .before .before .before .before .before .before .before .before .before .grid-roll-bytes .ensures) (c .before .before .before .before .before .before .before .before .before .before .rolled .given .1) in
     let h = c .before .before .before .before .before .before .before .put-head .ensures .0 in
-    let k = c .before .before .put-rows .ensures in
+    let k = c .before .before .put-rows .ensures .0 in
     (prints-roll (c .before .before .before .before .before .before .before .before .before .before .before .before .before .before .before .before .before .args .sheet .now) d h k, within (and-behind h k))
 
 same-length-2 : tie.Need-same-length-2

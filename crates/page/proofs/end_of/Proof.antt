@@ -2,9 +2,9 @@
 use mathlib.Core.Path.{ap}
 use native.Mathlib.Omega.{arith}
 use borrow.Author.Needs.{needs}
-use Rattle.roll.specs.Behind.{lengthIn}
-use Rattle.roll.proofs.end_of.Statement.{statement}
-use Rattle.roll.proofs.end_of.Tie as tie
+use Rattle.page.specs.Behind.{lengthIn}
+use Rattle.page.proofs.end_of.Statement.{statement}
+use Rattle.page.proofs.end_of.Tie as tie
 
 enum-known-t : tie.Need-enum-known-t
 enum-known-t c = search needs

@@ -5,9 +5,9 @@ use lib.ListN.{length}
 use borrow.Author.Needs.{needs}
 use Rattle.text.specs.Lines.{refusedOf}
 use Rattle.text.proofs.Lengths.{refusal-short}
-use Rattle.roll.proofs.Putting.{text-long, in-front}
-use Rattle.roll.proofs.put_refusal.Statement.{statement}
-use Rattle.roll.proofs.put_refusal.Tie as tie
+use Rattle.page.proofs.Putting.{text-long, in-front}
+use Rattle.page.proofs.put_refusal.Statement.{statement}
+use Rattle.page.proofs.put_refusal.Tie as tie
 
 refusal-requires : tie.Need-refusal-requires
 refusal-requires c κs = search needs

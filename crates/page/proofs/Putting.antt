@@ -1,25 +1,25 @@
 -- Texts put into a buffer one behind the other. Main theorems: `in-front` and `in-part`, what a line written into the buffer or into its rest leaves there; `one-row-more`, the line of the next row.
 use mathlib.Core.Path.{_≡_, refl, sym, ap, _∙_}
 use mathlib.Core.List.{List, [], _∷_, _++_, append-assoc, append-nil}
-use Prim.Native.Nat.{ℕ, _+_, _*_, _/_, _≤_}
+use Prim.Native.Nat.{ℕ, _+_, _-_, _≤_}
 use native.Mathlib.Numerals.{add-one}
 use native.Mathlib.Omega.{arith}
-use borrow.Author.Tests.{lt-ltb}
-use lib.ListN.{length, take, drop, length-append, length-drop}
+use lib.ListN.{length, take, drop, length-append, length-drop, length-take}
 use lib.Seq.{length-take-le, take-at}
+use borrow.Rule.Slice.PartMut.{midOf, postOf, mid-len}
 use Rattle.sheet.specs.Lent.{andThen}
 use Rattle.sheet.specs.Returned.{accepted, gives}
 use Rattle.sheet.proofs.Lent.{said-given, put}
 use Rattle.rule.specs.declared.Row.{Row}
 use Rattle.stored.specs.declared.Stored.{Stored}
 use Rattle.stored.specs.declared.Stored.the-variants.{Found, Nothing}
-use Rattle.stored.specs.Stored.{rowFrom, rowIn, rowsIn}
+use Rattle.stored.specs.Stored.{rowIn, rowsIn}
 use Rattle.text.specs.declared.Text.{Text}
 use Rattle.text.specs.declared.Text.the-variants.{Length, Refused}
 use Rattle.text.specs.Lines.{lineOf}
 use Rattle.text.specs.Printed.{printed, Prints}
-use Rattle.roll.specs.Answer.{linesOf}
-use Rattle.roll.specs.Behind.{Behind, lengthIn}
+use Rattle.page.specs.Rows.{linesOf}
+use Rattle.page.specs.Behind.{Behind, lengthIn}
 
 -- ---- one text
 
@@ -44,6 +44,14 @@ module _ {text before exit : List ℕ} {t : Text} (h : Prints text before exit t
         long = omega arith;
         same = ap length text-there ∙ length-append text (drop (length text) before) ∙ omega (arith, length-drop (length text) before);
       }
+
+-- the part of a buffer from `at` on that is lent
+module _ (at : ℕ) (out : List ℕ) (h : at ≤ length out) where
+  pub mid-long : length (midOf at (length out - at) out) ≡ length out - at
+  mid-long = mid-len at (length out) out (omega arith)
+
+  pub post-none : at + (length (midOf at (length out - at) out) + length (postOf at (length out - at) out)) ≡ length out
+  post-none = omega (arith, mid-long, length-drop at out, length-drop (length out - at) (drop at out))
 
 -- into the part of a buffer from `at` on, of which `lent` is lent
 pub in-part : {text before lent part : List ℕ} {t : Text} {at end : ℕ} (more : List ℕ) → Prints text lent part t → length text ≤ length lent → end ≡ at + lengthIn t
@@ -75,6 +83,10 @@ and-behind {a} {b} {before} {mid} {exit} {at} {here} {end} h k =
       same = k .same ∙ h .same;
     }
 
+-- the text's end is in the buffer
+pub within : {text before exit : List ℕ} {end : ℕ} → Behind text 0 before end exit → end ≤ length exit
+within {exit = exit} {end} b = omega (arith, ap length (b .is), length-take end exit, b .long)
+
 -- ---- rows
 
 lines-snoc : (l : List Row) (r : Row) → linesOf (l ++ (r ∷ [])) ≡ linesOf l ++ lineOf r
@@ -82,21 +94,15 @@ unfolding linesOf
 lines-snoc [] r = append-nil (lineOf r)
 lines-snoc (q ∷ l) r = rw (lines-snoc l r, append-assoc)
 
-module _ (s : List ℕ) (k : ℕ) (room : 29 * (k + 1) ≤ length s) where
-  there : rowIn s k ≡ Found (rowFrom s (29 * k))
-  unfolding rowIn
-  there = simp (lt-ltb k (length s / 29) (omega arith))
-
-  pub row-there : {row : Row} {o : Stored} → o ≡ rowIn s k → o ≡ Found row → row ≡ rowFrom s (29 * k)
-  row-there e f = let g = there in cc
-
-  pub no-row : {o : Stored} → o ≡ rowIn s k → o ≡ Nothing → ⊥
-  no-row e f = let g = there in let z : _≡_ {A = ℕ} 0 1 = cc in omega arith
-
 pub no-rows-yet : (s : List ℕ) (at : ℕ) (before : List ℕ) → Behind (linesOf (rowsIn s 0)) at before at before
 unfolding linesOf rowsIn
 no-rows-yet s at before = nothing-put at before
 
-pub one-row-more : (s : List ℕ) {before mid exit : List ℕ} {at here end : ℕ} (k : ℕ) {row : Row} → Behind (linesOf (rowsIn s k)) at before here mid → row ≡ rowFrom s (29 * k) → Behind (lineOf row) here mid end exit → Behind (linesOf (rowsIn s (k + 1))) at before end exit
-unfolding rowsIn
-one-row-more s k h e b = rw (add-one, lines-snoc (rowsIn s k) (rowFrom s (29 * k))) (and-behind h (rw e at b))
+module _ (s : List ℕ) (k : ℕ) {at : ℕ} {before : List ℕ} {here : ℕ} {mid : List ℕ} {o : Stored} (h : Behind (linesOf (rowsIn s k)) at before here mid) (e : o ≡ rowIn s k) where
+  pub one-row-more : {row : Row} {end : ℕ} {exit : List ℕ} → o ≡ Found row → Behind (lineOf row) here mid end exit → Behind (linesOf (rowsIn s (k + 1))) at before end exit
+  unfolding rowsIn
+  one-row-more {row} f b = let g : rowIn s k ≡ Found row = sym e ∙ f in rw (add-one, g, lines-snoc (rowsIn s k) row) (and-behind h b)
+
+  pub no-row-more : o ≡ Nothing → Behind (linesOf (rowsIn s (k + 1))) at before here mid
+  unfolding rowsIn
+  no-row-more f = let g : rowIn s k ≡ Nothing = sym e ∙ f in rw (add-one, g, append-nil) h

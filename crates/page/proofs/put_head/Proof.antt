@@ -5,9 +5,9 @@ use lib.ListN.{length}
 use borrow.Author.Needs.{needs}
 use Rattle.text.specs.Lines.{headOf}
 use Rattle.text.proofs.Lengths.{head-short}
-use Rattle.roll.proofs.Putting.{text-long, in-front}
-use Rattle.roll.proofs.put_head.Statement.{statement}
-use Rattle.roll.proofs.put_head.Tie as tie
+use Rattle.page.proofs.Putting.{text-long, in-front}
+use Rattle.page.proofs.put_head.Statement.{statement}
+use Rattle.page.proofs.put_head.Tie as tie
 
 head-requires : tie.Need-head-requires
 head-requires c κs = search needs
