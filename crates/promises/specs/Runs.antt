@@ -20,7 +20,7 @@ use Rattle.stored.specs.Stored.{rowIn}
 -- The lent buffer before and after it, and what it returned
 pub data Run (l : List Command) (before exit : List ℕ) : Returned → Type 0 where
   plain : {v : Returned} {S : Listing} (r : Rolled) → Given l v S → Rolls v S before exit r → Run l before exit (rolled r)
-  grid : {v : Returned} {S : Listing} {g : ℕ} (r : GridRolled) → Given l v S → Figure g → GridRolls v S g before exit r → Run l before exit (gridRolled r)
+  grid : {v : Returned} {S : Listing} {g : ℕ} (r : GridRolled) → Given l v S → Figure g → GridRolls v S g before exit r → Run l before exit (gridRolled r .returned)
 
 -- a row for each track
 abbrev pub rowCount : List Command → ℕ

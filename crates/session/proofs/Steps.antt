@@ -1,6 +1,6 @@
 -- Sequences of calls on a session, each as its contract says. Main theorems: `so-far` (what has been shown since the last reset is the
--- front of the one roll, in order, as many rows as the steps named or those left), and `same-place` and `refreshed` (the same rows at
--- the same places for every order of the sheet's commands). `within` and `kept` speak of any session.
+-- front of the one roll, in order, as many rows as the steps named or those left). `within` and `kept` speak of any session. That it is
+-- so for every order of the sheet's commands is the promise to the desk (crate `promises`).
 use mathlib.Core.Path.{_≡_, refl, sym, ap, ap₂, _∙_, subst}
 use mathlib.Core.List.{List, [], _++_, List·Permᴰ}
 use Prim.Native.Nat.{ℕ, _+_, _-_, _*_, _≤_, min}
@@ -134,36 +134,3 @@ module _ {S : Listing} {s : Session} {w : List ℕ} {a : ℕ} (p : Steps S s w a
   as-counted =
       let g = so-far p in
       g .bytes ∙ ap rollBytes (sym (take-min a (rollOf S)) ∙ ap (λ (j : ℕ). take j (rollOf S)) (sym (g .cursor)))
-
--- ---- for every order of the commands
-
-pub record SamePlace (s s′ : Session) (w w′ : List ℕ) : Type 0 where
-  pub cursor : s .shown ≡ s′ .shown
-  pub bytes : w ≡ w′
-  pub next : (n : ℕ) → nextRows s n ≡ nextRows s′ n
-
-module _ {l k : List Command} (p : List·Permᴰ l k) (f : AllFit l) (e : verdictOf (encodeAll l) ≡ accepted) where
-  -- the other order can be opened, and has the one roll
-  pub opens-too : verdictOf (encodeAll k) ≡ accepted
-  opens-too = order-verdict p f e
-
-  one : rollOf (listing l) ≡ rollOf (listing k)
-  one = roll-order (reordered p) (accepted-exactly f .0 e)
-
-  module _ {s s′ : Session} {w w′ : List ℕ} {a a′ : ℕ} (x : Steps (listing l) s w a) (y : Steps (listing k) s′ w′ a′) where
-    at : s .shown ≡ s′ .shown → SamePlace s s′ w w′
-    at c =
-        let r : rollIn s ≡ rollIn s′ = ap rollOf (so-far x .of-sheet) ∙ one ∙ sym (ap rollOf (so-far y .of-sheet)) in
-        record {
-          cursor = c;
-          bytes = as-counted x ∙ ap₂ (λ (j : ℕ) (R : List Row). rollBytes (take j R)) c one ∙ sym (as-counted y);
-          next = λ n. ap₂ (λ (j : ℕ) (R : List Row). take n (drop j R)) c r;
-        }
-
-    -- after the same steps
-    pub same-place : a ≡ a′ → SamePlace s s′ w w′
-    same-place q = at (so-far x .cursor ∙ ap₂ (λ (j : ℕ) (R : List Row). min j (length R)) q one ∙ sym (so-far y .cursor))
-
-    -- a refresh: opened anew, and advanced by as many as had been shown
-    pub refreshed : a′ ≡ s .shown → SamePlace s s′ w w′
-    refreshed q = at (omega (arith, so-far x .cursor, so-far y .cursor, q, ap length one))
