@@ -40,7 +40,7 @@ use Rattle.plain_run.specs.declared.Rolled.{Rolled}
 use Rattle.plain_run.specs.Rolled.{rolled, needed, rollReturns, Rolls}
 use Rattle.grid_run.specs.declared.GridRolled.{GridRolled}
 use Rattle.grid_run.specs.declared.GridRolled.the-variants.{Rows, Refused}
-use Rattle.grid_run.specs.GridRolled.{Reported, gridRolled, gridReturns, withRows, GridRolls}
+use Rattle.grid_run.specs.GridRolled.{Reported, gridRolled, withRows, GridRolls}
 use Rattle.grid_run.specs.Demand.{Given, in-bytes, in-records, Outcome, too-short, written, Reports, Demand3}
 use Rattle.grid_run.proofs.Outcome.{figured, rows-count}
 

@@ -16,8 +16,8 @@ use Rattle.cells.proofs.Figures.{figure-checked, not-figure}
 use Rattle.plain_run.specs.declared.Rolled.{Rolled}
 use Rattle.plain_run.specs.Rolled.{rolled, needed, rollReturns, Rolls}
 use Rattle.grid_run.specs.declared.GridRolled.{GridRolled}
-use Rattle.grid_run.specs.declared.GridRolled.the-variants.{Rows, Refused}
-use Rattle.grid_run.specs.GridRolled.{Reported, gridRolled, gridReturns, withRows, gridReports, GridRolls}
+use Rattle.grid_run.specs.declared.GridRolled.the-variants.{Refused}
+use Rattle.grid_run.specs.GridRolled.{gridRolled, gridReturns, withRows, GridRolls}
 
 -- with one of the six figures an accepted sheet is answered as by the plain run
 pub figured : (S : Listing) (g lent : ℕ) → isFigure g ≡ true → gridReturns accepted S g lent ≡ rollReturns accepted S lent

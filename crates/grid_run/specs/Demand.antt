@@ -55,7 +55,7 @@ pub record Demand3 (l : List Command) : Type 0 where
   -- for each figure the cells with a point of a trace, summed over traces, have one number; only this depends on the figure
   pub counted : (g : ℕ) → Figure g → Counted (timeOf roll) g (tracksOf l) (cellsEntered (listing l) g)
   pub no-other-count : (g n : ℕ) → Figure g → Counted (timeOf roll) g (tracksOf l) n → n ≡ cellsEntered (listing l) g
-  -- no trace has a point in more than 2g − 1 cells, and so much for their sum
+  -- no trace has a point in more than 2g − 1 cells; so the sum is at most that for each track
   pub few : (g : ℕ) → Figure g → (a : Track) → a ∈ tracksOf l → (k : List Cell) → CellsOf a (timeOf roll (a .id)) (side g) k → length k ≤ 2 * g - 1
   pub few-in-all : (g : ℕ) → Figure g → cellsEntered (listing l) g ≤ length (tracksOf l) * (2 * g - 1)
   -- "all orders of its commands before 00": each is accepted, and the rule says the same of it

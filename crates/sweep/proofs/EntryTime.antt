@@ -2,11 +2,11 @@
 use mathlib.Core.List.{List, Memᴰ·append-left}
 use mathlib.Core.Logic.{_⊎_, inl, inr, _≢_}
 use mathlib.Core.Path.{_≡_, refl, sym, ap, _∙_, subst}
-use Prim.Native.Nat.{ℕ, suc, pred, _<_}
+use Prim.Native.Nat.{ℕ}
 use native.Mathlib.Omega.{arith}
-use lib.ListN.{take, drop, take-append-drop}
-use Rattle.exact.specs.Time.{Time, _≤ᵗ_, _<ᵗ_, fraction}
-use Rattle.exact.proofs.TimeOrder.{≤ᵗ-trans, ≤ᵗ-<ᵗ-trans, <ᵗ-≤ᵗ-trans, <ᵗ-irrefl, at-most}
+use lib.ListN.{drop, take-append-drop}
+use Rattle.exact.specs.Time.{Time, _≤ᵗ_}
+use Rattle.exact.proofs.TimeOrder.{≤ᵗ-trans, ≤ᵗ-<ᵗ-trans, <ᵗ-irrefl, at-most}
 use Rattle.sheet.specs.declared.Track.{Track}
 use Rattle.sheet.specs.declared.Wall.{Wall}
 use Rattle.sheet.specs.Accepted.{Accepted}
@@ -30,14 +30,14 @@ use Rattle.rule.proofs.Running.{Ended, Fresh, ended?}
 use Rattle.rule.proofs.Selection.{up-all, up-fresh}
 use Rattle.rule.proofs.Walls.{WallMeans, clear, touches}
 use Rattle.causes.specs.declared.Cause.{Cause}
-use Rattle.causes.specs.Cause.{tipAt, wallAt, Fine}
+use Rattle.causes.specs.Cause.{Fine}
 use Rattle.cells.specs.declared.Cell.{Cell}
 use Rattle.cells.specs.EnteredAt.{EnteredAt}
 use Rattle.cells.specs.Cut.{past}
 use Rattle.cells.specs.OneCell.{entry, exit}
 use Rattle.cells.proofs.Cut.{_<ᶜ_, after-den, after-mono}
 use Rattle.cells.proofs.Entry.{past-before, before-past, point-by, entered-at}
-use Rattle.cells.proofs.Walk.{next, Good, Stepped}
+use Rattle.cells.proofs.Walk.{next, Stepped}
 use Rattle.heap.specs.Key as key
 use Rattle.pending.specs.Pending.{pendingKey}
 use Rattle.pending.proofs.Order.{pending-by, own-entry}
