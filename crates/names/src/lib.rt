@@ -3,6 +3,9 @@ ghost use mathlib.Core.Path.{_≡_};
 ghost use Prim.Native.Nat.{_<_};
 ghost use Rattle.names.specs.NameList.{nameOf};
 ghost use Rattle.names.specs.Partner.{partnerName, IsPart, IsNamed};
+
+pub mod place; // place.rt: where the name lies
+
 use layout::get16;
 use rule::Ending;
 
