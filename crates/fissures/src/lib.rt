@@ -34,11 +34,13 @@ pub use text::line;
 pub use text::refusal;
 pub use text::still_running;
 
-// The stepping session, the partner's name, the tracks of a cell.
+// The stepping session, the partner's name or where it lies, the tracks of a cell.
 pub use listing::Listed;
 pub use listing::cell_tracks;
 pub use listing::cell_tracks_bytes;
 pub use names::partner_name;
+pub use names::place::Place;
+pub use names::place::partner_place;
 pub use session::Advanced;
 pub use session::Begun;
 pub use session::Session;

@@ -1,2 +1,3 @@
 pub mod NameList
 pub mod Partner
+pub mod Place

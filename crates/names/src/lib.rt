@@ -2,6 +2,9 @@
 ghost use mathlib.Core.Path.{_≡_};
 ghost use Rattle.names.specs.NameList.{nameOf};
 ghost use Rattle.names.specs.Partner.{partnerName, IsPart, IsNamed};
+
+pub mod place; // place.rt: where the name lies
+
 use layout::get;
 use layout::get16;
 use rule::Ending;

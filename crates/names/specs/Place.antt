@@ -1,0 +1,9 @@
+-- A part as the code says it.
+use Prim.Native.Nat.{ℕ}
+use Rattle.names.specs.declared.place.Place.{Place}
+use Rattle.names.specs.declared.place.Place.the-variants.{OfTracks, OfWalls}
+use Rattle.names.specs.Partner.{Part, ofTracks, ofWalls}
+
+abbrev pub partAt : Place → Part
+partAt (OfTracks start size) = ofTracks start size
+partAt (OfWalls start size) = ofWalls start size
