@@ -1,4 +1,4 @@
-// The table's tests on one command and on two (document 01, "Returned on refusal"), exact: products in 64 bits.
+// The table's tests on one command and on two (SHEETS 3.1, 3.5, 3.6), exact: products in 64 bits.
 // `|` and `&` where both sides are cheap, an early return where the first test nearly always decides.
 ghost use mathlib.Core.Path.{_≡_};
 ghost use mathlib.Core.Bool.{_&&_, _||_, cond};

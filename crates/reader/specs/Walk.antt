@@ -1,4 +1,4 @@
--- The commands before a place of a sheet's bytes, "a string of one-byte commands with operands of fixed width" (document 01, "The sheet").
+-- The commands before a place of a sheet's bytes, one behind the other (SHEETS 2.1).
 use mathlib.Core.Path.{_≡_}
 use mathlib.Core.List.{List, [], _∷_}
 use Prim.Native.Nat.{ℕ, _+_}

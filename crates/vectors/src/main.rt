@@ -1,6 +1,6 @@
 // Reads framed sheets from standard input and prints for each `refused` with the table's two numbers, or three lines: the numbers of
 // tracks and walls and the ordered form in hexadecimal; the plain run's rows; the grid run's cells entered at each of the six figures, or `differs` and
-// the figure where its rows are not the plain run's. It is held to the outside implementation's answers.
+// the figure where its rows are not the plain run's. It is held to the reference implementation's answers.
 // A frame is a sheet's length in two bytes, low byte first, and its bytes.
 ghost use Prim.Native.Nat.{_<_};
 use grid_run::GridRolled;
