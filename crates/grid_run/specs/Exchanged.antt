@@ -19,7 +19,7 @@ pub record OtherOrder (first second : List ℕ) : Type 0 where
   pub second-whole : second ≡ encodeAll (commandsOf second)
   pub order : List·Permᴰ (commandsOf first) (commandsOf second)
 
--- the listings, the figure, and the two buffers at entry
+-- the listings, the figure, and the two buffers at entry (SHEETS 10.1)
 pub record Entry : Type 0 where
   pub first : List ℕ
   pub second : List ℕ
@@ -33,7 +33,7 @@ pub record Agree (e : Entry) (plain grid : List ℕ) : Type 0 where
   pub equal : let S = listing (commandsOf (e .first)) in
       verdictOf (e .first) ≡ accepted → Figure (e .figure) → needed S ≤ length (e .plain) → needed S ≤ length (e .grid) → take (needed S) plain ≡ take (needed S) grid
 
--- what each run answers and writes, and that they agree
+-- what each run answers and writes, and that they agree (SHEETS 10.1)
 pub record Exchanges (e : Entry) (plain grid : List ℕ) (r : Exchanged) : Type 0 where
   pub by-plain : Rolls (verdictOf (e .first)) (listing (commandsOf (e .first))) (e .plain) plain (r .plain)
   pub by-grid : GridRolls (verdictOf (e .second)) (listing (commandsOf (e .second))) (e .figure) (e .grid) grid (r .grid)

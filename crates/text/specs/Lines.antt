@@ -30,15 +30,15 @@ lineOf r =
     field (r .x) 32 ++
     field (r .y) 10
 
--- `tracks `
+-- `tracks ` (SHEETS 9.1)
 abbrev pub tracksWord : List ℕ
 tracksWord = 116 ∷ 114 ∷ 97 ∷ 99 ∷ 107 ∷ 115 ∷ 32 ∷ []
 
--- `cells `
+-- `cells ` (SHEETS 9.1)
 abbrev pub cellsWord : List ℕ
 cellsWord = 99 ∷ 101 ∷ 108 ∷ 108 ∷ 115 ∷ 32 ∷ []
 
--- `refused `
+-- `refused ` (SHEETS 9.2)
 abbrev pub refusedWord : List ℕ
 refusedWord = 114 ∷ 101 ∷ 102 ∷ 117 ∷ 115 ∷ 101 ∷ 100 ∷ 32 ∷ []
 
