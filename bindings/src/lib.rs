@@ -125,7 +125,7 @@ impl<'a> Session<'a> {
         check(sheet).map(|()| Session { sheet, shown: 0 })
     }
 
-    /// Writes the next n rows, or those left (SHEETS 7.2), and gives their number. A refusal leaves the session as it is.
+    /// Advance by n (SHEETS 7.2): writes rows and gives their number. A refusal leaves the session as it is.
     pub fn advance(&mut self, n: u64, out: &mut [u8]) -> Result<usize, Refusal> {
         let (mut second, mut after) = (0, u64::MAX);
         let (sheet, length) = (self.sheet.as_ptr(), self.sheet.len());

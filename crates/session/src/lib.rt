@@ -64,7 +64,7 @@ impl Session {
         begin(sheet, verdict)
     }
 
-    // Writes the next n rows, or those left (SHEETS 7.2). `shown + n` may exceed the machine's word: it is never computed.
+    // Advance by n (SHEETS 7.2). `shown + n` may exceed the machine's word: it is never computed.
     pub fn advance(self, n: usize, out: &mut [u8]) -> Advanced
         ensures { λ r. ⌜ Advances self n (now (out .entry)) (now (out .exit)) r ⌝ }
     {
