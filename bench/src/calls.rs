@@ -1,4 +1,4 @@
-//! The calls of the proved library, and what the reference implementation does for each: both from a sheet's bytes to the answer's.
+//! The calls of the proved library, and what the outside implementation does for each: both from a sheet's bytes to the answer's.
 
 use crate::sheets::Timed;
 use crate::timing::least;
@@ -50,7 +50,7 @@ impl Call {
         answer.expect("an accepted sheet")
     }
 
-    /// The same by the reference implementation.
+    /// The same by the outside implementation.
     fn outside(self, timed: &Timed, out: &mut [u8]) -> usize {
         let records = black_box(read(&timed.bytes).expect("an accepted sheet"));
         match self {

@@ -69,7 +69,7 @@ impl Measured<'_> {
     }
 }
 
-/// Both give the reference implementation's rows and cells.
+/// Both give the outside implementation's rows and cells.
 fn check(timed: &Timed) {
     let rows = roll(&timed.records);
     let bytes = roll_bytes(&rows);

@@ -1,4 +1,4 @@
-//! The proved calls against the reference implementation's on random sheets of 2 to 256 tracks: ratios, times, and how the times grow.
+//! The proved calls against the outside implementation's on random sheets of 2 to 256 tracks: ratios, times, and how the times grow.
 
 use crate::calls::{compare, Call, Pair};
 use crate::sheets::on_ground;
@@ -55,19 +55,19 @@ fn measure(walls: usize) -> Vec<Measured> {
 
 fn print_sizes(walls: usize, what: &str) {
     let measured = measure(walls);
-    println!("### Random sheets {what}\n\nRatio to the reference implementation.\n");
+    println!("### Random sheets {what}\n\nRatio to the outside implementation.\n");
     table::print(&head("tracks", SIZES), measured.iter().map(|calls| calls.cells(|pair| table::ratio(pair.ratio()))));
     println!("Microseconds of the proved call.\n");
     table::print(&head("tracks", SIZES), measured.iter().map(|calls| calls.cells(|pair| table::time(pair.proved))));
-    println!("Growth of the proved call: log2 of the ratio of times between a size and its double; the fitted exponent; the reference implementation's.\n");
+    println!("Growth of the proved call: log2 of the ratio of times between a size and its double; the fitted exponent; the outside implementation's.\n");
     let doubled = SIZES.windows(2).map(|pair| format!("{} to {}", pair[0], pair[1]));
     let fits = ["", ", outside"].map(|side| format!("from {FITTED_FROM}{side}"));
     table::print(&head("tracks", doubled.chain(fits)), measured.iter().map(Measured::growth));
 }
 
 pub fn print() {
-    println!("## Against the reference implementation, by size\n");
-    println!("From the sheet's bytes to the answer's bytes, on both sides. For a grid run the reference implementation sweeps the plane and then counts the cells of each trace. A session step is `fissure_advance` by one row with half of the rows shown: it reads the sheet and works the whole roll out anew by the plain run, of which it writes one row.\n");
+    println!("## Against the outside implementation, by size\n");
+    println!("From the sheet's bytes to the answer's bytes, on both sides. For a grid run the outside implementation sweeps the plane and then counts the cells of each trace. A session step is `fissure_advance` by one row with half of the rows shown: it reads the sheet and works the whole roll out anew by the plain run, of which it writes one row.\n");
     print_sizes(0, "without walls");
     print_sizes(1, "with as many walls as tracks");
 }

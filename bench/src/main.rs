@@ -1,4 +1,4 @@
-//! The proved library against the reference implementation and against its own algorithms in Rust: same machine, same sheets, one run.
+//! The proved library against the outside implementation and against its own algorithms in Rust: same machine, same sheets, one run.
 //! Times are the least of many rounds, in microseconds. Ratios are what counts.
 
 mod calls;

@@ -1,4 +1,4 @@
-//! Reading, checking and writing a sheet, against the reference implementation.
+//! Reading, checking and writing a sheet, against the outside implementation.
 
 use crate::calls::{compare, Call};
 use crate::sheets::on_ground;
@@ -12,6 +12,6 @@ fn measure(records: usize) -> Vec<String> {
 }
 
 pub fn print() {
-    println!("## Reading, checking and writing a sheet, against the reference implementation\n");
+    println!("## Reading, checking and writing a sheet, against the outside implementation\n");
     table::print(&head("sheet", ["proved", "outside", "ratio"]), [16, 64, 256].map(measure));
 }

@@ -1,4 +1,4 @@
-//! The plain run against the same algorithm in Rust and against the reference implementation's sweep: its call less the scan of the bytes.
+//! The plain run against the same algorithm in Rust and against the outside implementation's sweep: its call less the scan of the bytes.
 
 use crate::sheets::Timed;
 use crate::table::{self, head, row};

@@ -1,4 +1,4 @@
-//! The grid run in Rust against the reference implementation: rows, and cells entered, at the six figures.
+//! The grid run in Rust against the outside implementation: rows, and cells entered, at the six figures.
 
 use reference::cells::{count, FIGURES};
 use reference::made_up::GROUNDS;

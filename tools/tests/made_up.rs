@@ -1,4 +1,4 @@
-//! Made-up sheets with their rolls from the reference implementation.
+//! Made-up sheets with their rolls from the outside implementation.
 
 use reference::cells::{cells_of, count};
 use reference::made_up::accepted;
@@ -21,7 +21,7 @@ fn printed(records: &Records) -> String {
     format!("tracks {} cells {}\n{lines}", rows.len(), count(records, &rows, 8))
 }
 
-/// Cells that the reference implementation gives a trace, as column and row.
+/// Cells that the outside implementation gives a trace, as column and row.
 fn outside_cells(records: &Records, trace: &Trace, figure: u16) -> Vec<(u16, u16)> {
     let rows = outside_roll(records);
     let end = rows.iter().find(|row| row.id == trace.track.id).unwrap().time;

@@ -4,7 +4,7 @@ use std::io::Write;
 use std::path::PathBuf;
 use std::process::{Command, Stdio};
 
-/// The starred sheets.
+/// Document 01's starred sheets.
 pub const NAMES: [&str; 13] = ["A", "B", "C", "D", "E", "F", "G", "H1", "H2", "I1", "I2", "J", "K"];
 
 /// The path of a file in the repository.
