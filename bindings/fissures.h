@@ -61,8 +61,8 @@ uint64_t fissure_grid(const uint8_t *sheet, size_t length, uint64_t figure, uint
 uint64_t fissure_cells(const uint8_t *sheet, size_t length, uint64_t figure, uint64_t column, uint64_t row, uint8_t *out, size_t room,
                        uint64_t *second);
 
-/* A session over the sheet of whose roll `shown` rows have been shown (all of them, if that is more than it has) advances by n: writes
- * the next n rows, or those left if fewer; second: the number of rows written; after: how many have then been shown, `shown` as it came
+/* A session over the sheet of whose roll `shown` rows have been shown (all of them, if that is more than it has) advances by n (SHEETS
+ * 7.2); second: the number of rows written; after: how many have then been shown, `shown` as it came
  * on a refusal. */
 uint64_t fissure_advance(const uint8_t *sheet, size_t length, uint64_t shown, uint64_t n, uint8_t *out, size_t room, uint64_t *second,
                          uint64_t *after);

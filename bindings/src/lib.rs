@@ -38,7 +38,7 @@ mod c {
     }
 }
 
-/// A line of document 01's table, with the place, length or figure that goes with it.
+/// A number of the refusal table with the second number beside it (SHEETS 3.1): a place, length or figure.
 #[derive(Clone, Copy, Debug, PartialEq, Eq)]
 pub struct Refusal {
     pub number: u64,
@@ -49,7 +49,7 @@ pub struct Refusal {
 #[derive(Clone, Copy, Debug, PartialEq, Eq)]
 pub struct GridRoll {
     pub rows: usize,
-    /// How many cells hold a point of a trace, summed over the traces.
+    /// The cells entered (SHEETS 6.6).
     pub cells: u64,
 }
 
@@ -125,7 +125,7 @@ impl<'a> Session<'a> {
         check(sheet).map(|()| Session { sheet, shown: 0 })
     }
 
-    /// Writes the next n rows, or those left if fewer, and gives their number. A refusal leaves the session as it is.
+    /// Advance by n (SHEETS 7.2): writes rows and gives their number. A refusal leaves the session as it is.
     pub fn advance(&mut self, n: u64, out: &mut [u8]) -> Result<usize, Refusal> {
         let (mut second, mut after) = (0, u64::MAX);
         let (sheet, length) = (self.sheet.as_ptr(), self.sheet.len());

@@ -1,4 +1,4 @@
-//! Each function of the proved library against the outside implementation, on sheets valid and damaged, long and short, with buffers
+//! Each function of the proved library against the reference implementation, on sheets valid and damaged, long and short, with buffers
 //! that are too short by one byte, exact, and longer than needed.
 
 use fissures::{Cell, GridRoll, Session, ROW};

@@ -1,4 +1,4 @@
-//! Document 01, "Grid, events, cells": which cells hold a point of a trace, cell by cell.
+//! Which cells hold a point of a trace (SHEETS 6.1 to 6.3), cell by cell.
 //!
 //! The times at which a tip is in one column are an interval, and so are those in one row. A cell
 //! holds a point of the trace when the two have a time in common up to the tip's exact end.
@@ -9,7 +9,7 @@ use crate::roll::{roll, Row};
 use crate::sheet::{Records, Track};
 use std::collections::BTreeSet;
 
-/// The grid figures.
+/// The grid figures (SHEETS 6.1).
 pub const FIGURES: [u64; 6] = [1, 2, 4, 8, 16, 32];
 
 #[derive(Clone, Copy, Debug, PartialEq, Eq, PartialOrd, Ord)]
@@ -93,7 +93,7 @@ fn also_in_row(times: Times, track: &Track, side: u64, row: u64) -> bool {
     times.within(track.y, track.vy, row * side, (row + 1) * side).is_some()
 }
 
-/// All cells that hold a point of the trace, which goes to `end`.
+/// All cells that hold a point of the trace, which goes to `end` (SHEETS 6.3).
 pub fn cells_of(track: &Track, end: Fraction, figure: u64) -> Vec<Cell> {
     let side = 4096 / figure;
     let mut cells = Vec::new();
@@ -114,7 +114,7 @@ fn traces<'a>(
     records.tracks.iter().map(move |track| (track, end_of(track).expect("a row for each track")))
 }
 
-/// The cells entered: how many hold a point of a trace, summed over the traces.
+/// The cells entered (SHEETS 6.6).
 pub fn count(records: &Records, rows: &[Row], figure: u64) -> usize {
     traces(records, rows).map(|(track, end)| cells_of(track, end, figure).len()).sum()
 }
@@ -124,7 +124,7 @@ pub fn counts(records: &Records, rows: &[Row]) -> [usize; 6] {
     FIGURES.map(|figure| count(records, rows, figure))
 }
 
-/// The ids of the tracks with a point in the cell.
+/// The ids of the tracks with a point in the cell (SHEETS 6.10).
 pub fn ids_in(records: &Records, rows: &[Row], figure: u64, cell: Cell) -> BTreeSet<u16> {
     let has_point = |(track, end): &(&Track, Fraction)| {
         let side = 4096 / figure;

@@ -1,4 +1,4 @@
-//! Exact fractions of two whole numbers, compared by cross-multiplication.
+//! Exact fractions, compared by cross-multiplication (SHEETS 1.3).
 
 use std::cmp::Ordering;
 use std::ops::{Add, Mul, Neg, Sub};
@@ -25,7 +25,7 @@ impl Fraction {
         Fraction::new(number, 1)
     }
 
-    /// Numerator and denominator without a common factor; zero is 0/1.
+    /// Numerator and denominator in lowest terms; zero is 0/1 (SHEETS 5.3).
     pub fn lowest(self) -> (i128, i128) {
         let factor = common_factor(self.numerator.abs(), self.denominator);
         (self.numerator / factor, self.denominator / factor)

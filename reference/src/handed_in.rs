@@ -1,4 +1,4 @@
-//! Document 01, "The sheet": records handed in, in room for 256 tracks and 256 walls, with the
+//! Records handed in (SHEETS 2.8, 2.9), in room for 256 tracks and 256 walls, with the
 //! numbers of those that count.
 
 use crate::refusal::{Refusal, TOO_MANY};
@@ -31,8 +31,8 @@ impl HandedIn {
         }
     }
 
-    /// The records, or the refusal of the sheet that lists them, tracks before walls. What a count
-    /// above 256 claims is refused as the 257th of its kind.
+    /// The records, or the refusal of the bytes that they stand for (SHEETS 2.8). What a count
+    /// above 256 claims is refused as the 257th of its kind (SHEETS 2.9).
     pub fn check(&self) -> Result<Records, Refusal> {
         let records = self.counted();
         let Records { tracks, walls } = &records;

@@ -1,5 +1,6 @@
 //! Fissure sheets worked out a second time, apart from the proved library, so that the two can be
-//! compared. Document 01 is the only thing they have in common.
+//! compared. The standard, docs/SHEETS.md, is the only thing they have in common; comments here
+//! cite its paragraphs, as `SHEETS 4.5`.
 
 #![forbid(unsafe_code)]
 

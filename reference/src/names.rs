@@ -1,4 +1,4 @@
-//! Document 01, "Session and names": the name of a row's partner.
+//! The name of a row's partner (SHEETS 8).
 
 #[derive(Clone, Debug, PartialEq, Eq)]
 pub struct Lookup {
@@ -21,7 +21,7 @@ impl Lookup {
     }
 }
 
-/// The name in the first whole entry with that id, if no entry before it is cut short.
+/// The name in the first whole entry with an id, if no entry before it is cut short (SHEETS 8.1, 8.3).
 pub fn name_in(list: &[u8], id: u16) -> Option<&[u8]> {
     let mut rest = list;
     loop {

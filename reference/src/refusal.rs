@@ -1,4 +1,4 @@
-//! Document 01, "Returned on refusal": the numbers of its table.
+//! The numbers of the refusal table (SHEETS 3.1).
 
 use std::fmt;
 
@@ -17,7 +17,7 @@ pub const OUTPUT_TOO_SHORT: u8 = 12;
 pub const GRID_FIGURE: u8 = 13;
 pub const OUTSIDE_GRID: u8 = 14;
 
-/// A line of the table. Its second value is a place; for 12 the length needed, for 13 the figure
+/// A line of the table. Its second number is a place; for 12 the length needed, for 13 the figure
 /// and for 14 zero.
 #[derive(Clone, Copy, Debug, PartialEq, Eq)]
 pub struct Refusal {

@@ -1,4 +1,4 @@
-//! Document 01, "The rule of ending": the roll of an accepted sheet, by one sweep over time.
+//! The roll of an accepted sheet (SHEETS 4, 5), by one sweep over time.
 //!
 //! Everything that could end a tip is listed first, whether or not it comes to pass: each wall and
 //! each other tip's line that it runs into, and the edge. In order of time, an entry ends its tip
@@ -24,7 +24,7 @@ pub struct Row {
     pub id: u16,
     pub ending: Ending,
     pub time: Fraction,
-    /// The end point in 64ths of a unit, rounded down.
+    /// The end point in 64ths of a unit, rounded down (SHEETS 5.4).
     pub x: u32,
     pub y: u32,
 }
@@ -60,7 +60,7 @@ impl Row {
         Row { id: track.id, ending, time, x, y }
     }
 
-    /// Numerator and denominator of the time, without a common factor.
+    /// Numerator and denominator of the time (SHEETS 5.3).
     pub fn time_in_lowest_terms(&self) -> (u64, u64) {
         let (numerator, denominator) = self.time.lowest();
         let part = |number| u64::try_from(number).expect("a time that is not negative");
@@ -79,7 +79,7 @@ impl Row {
     }
 }
 
-/// As program `roll` prints it: id, kind, partner, time, x and y in 64ths.
+/// As program `roll` prints it (SHEETS 9.1).
 impl fmt::Display for Row {
     fn fmt(&self, f: &mut fmt::Formatter<'_>) -> fmt::Result {
         let Row { id, ending, x, y, .. } = self;
@@ -89,8 +89,8 @@ impl fmt::Display for Row {
     }
 }
 
-/// What may end a tip. Of several at one time the first in this order is named: a track before a
-/// wall, a wall before the edge, and within a kind the smallest id.
+/// What may end a tip. Of several at one time the first in this order is named (SHEETS 4.9): tracks,
+/// walls, the edge, and within a kind the smallest id.
 #[derive(Clone, Copy, Debug, PartialEq, Eq, PartialOrd, Ord)]
 enum Cause {
     /// The other track's id, its place among the tracks, and when it got to the point.
@@ -115,7 +115,7 @@ struct Event {
 }
 
 /// When tip `a` gets to a point of the line of tip `b`, and when `b` got there, if `b` is first or
-/// both come together.
+/// both come together (SHEETS 4.5).
 fn contact_with_track(a: &Track, b: &Track) -> Option<(Fraction, Fraction)> {
     let (v, w) = (a.speed(), b.speed());
     let between = b.start() - a.start();
@@ -128,7 +128,7 @@ fn contact_with_track(a: &Track, b: &Track) -> Option<(Fraction, Fraction)> {
     (Fraction::ZERO <= reached && reached <= time).then_some((time, reached))
 }
 
-/// On one line only the tip behind can be ended by the other, and it is, at the other's start.
+/// On one line only the tip behind can be ended by the other: at the other's start (SHEETS 4.8).
 /// The one in front never meets a trace of one behind: that one goes no further than this start.
 fn contact_along_line(v: Vector, w: Vector, between: Vector) -> Option<(Fraction, Fraction)> {
     let behind = v.cross(between) == 0 && v.dot(w) > 0 && v.dot(between) > 0;
@@ -150,7 +150,7 @@ fn contact_with_wall(track: &Track, wall: &Wall) -> Option<Fraction> {
     (on_wall && time >= Fraction::ZERO).then_some(time)
 }
 
-/// The last moment inside the sheet.
+/// The last moment inside the sheet (SHEETS 4.4).
 fn contact_with_edge(track: &Track) -> Fraction {
     let last = |start: u16, speed: i8| {
         let room = if speed > 0 { MAX_COORDINATE - start } else { start };
@@ -177,7 +177,7 @@ fn events_of(index: usize, records: &Records) -> Vec<Event> {
     events
 }
 
-/// The roll of an accepted sheet: all rows by rising time, equal times by rising id.
+/// The roll of an accepted sheet, by time and then by id (SHEETS 5.5).
 pub fn roll(records: &Records) -> Vec<Row> {
     let mut events: Vec<Event> =
         (0..records.tracks.len()).flat_map(|index| events_of(index, records)).collect();
@@ -208,7 +208,7 @@ fn ending(cause: Cause, time: Fraction) -> Ending {
     }
 }
 
-/// The rows in bytes, 29 each.
+/// The rows in bytes, 29 each (SHEETS 5.6).
 pub fn roll_bytes(rows: &[Row]) -> Vec<u8> {
     let mut bytes = Vec::with_capacity(rows.len() * Row::LENGTH);
     for row in rows {

@@ -1,4 +1,4 @@
-//! Document 01, "The sheet": records, the reader, the check of handed-in records and the writer.
+//! Records, the reader, the check of handed-in records and the writer (SHEETS 2, 3).
 
 use crate::plane::Vector;
 use crate::refusal::*;
@@ -32,7 +32,7 @@ pub enum Command {
     Wall(Wall),
 }
 
-/// The records of a sheet, in the order in which it lists them.
+/// The records of a sheet, in the order in which it lists them (SHEETS 2.7).
 #[derive(Clone, Debug, Default, PartialEq, Eq)]
 pub struct Records {
     pub tracks: Vec<Track>,
@@ -74,7 +74,7 @@ impl Track {
         allowed.contains(&self.vx) && allowed.contains(&self.vy) && (self.vx, self.vy) != (0, 0)
     }
 
-    /// Both tips are on one line, each start ahead of the other tip.
+    /// The two tips run toward each other on one line (SHEETS 3.6).
     fn faces(&self, other: &Track) -> bool {
         let (v, w) = (self.speed(), other.speed());
         let between = other.start() - self.start();
@@ -112,7 +112,7 @@ impl Wall {
         }
     }
 
-    /// The point is on the wall, ends included: on its line, and between its ends.
+    /// The point is on the wall (SHEETS 3.5): on its line, and in x and y between its ends.
     fn holds(&self, point: Vector) -> bool {
         let (to_a, to_b) = (self.a() - point, self.b() - point);
         to_a.cross(to_b) == 0 && to_a.dot(to_b) <= 0
@@ -219,7 +219,7 @@ fn refuse_if(number: u8, broken: bool) -> Result<(), u8> {
     }
 }
 
-/// Reads a sheet, or gives its refusal.
+/// Reads a sheet, or gives its refusal (SHEETS 3.3).
 pub fn read(bytes: &[u8]) -> Result<Records, Refusal> {
     let mut records = Records::default();
     let mut place = 0;
@@ -259,7 +259,7 @@ pub fn commands<'a>(tracks: &'a [Track], walls: &'a [Wall]) -> impl Iterator<Ite
     tracks.chain(walls.iter().copied().map(Command::Wall))
 }
 
-/// The commands' bytes, followed by 00.
+/// The commands' bytes, followed by 00 (SHEETS 2.1, 2.2).
 pub fn listing(commands: impl IntoIterator<Item = Command>) -> Vec<u8> {
     let mut bytes = Vec::new();
     for command in commands {
@@ -269,7 +269,7 @@ pub fn listing(commands: impl IntoIterator<Item = Command>) -> Vec<u8> {
     bytes
 }
 
-/// Refuses handed-in records as the sheet that lists them, tracks before walls, would be.
+/// Judges handed-in records as the bytes that they stand for (SHEETS 2.8).
 pub fn check(tracks: &[Track], walls: &[Wall]) -> Result<(), Refusal> {
     let mut records = Records::default();
     let mut place = 0;
@@ -280,7 +280,7 @@ pub fn check(tracks: &[Track], walls: &[Wall]) -> Result<(), Refusal> {
     Ok(())
 }
 
-/// The ordered form: tracks by rising id, then walls by rising id, then 00.
+/// The ordered form (SHEETS 2.6).
 pub fn ordered_form(tracks: &[Track], walls: &[Wall]) -> Vec<u8> {
     let (mut tracks, mut walls) = (tracks.to_vec(), walls.to_vec());
     tracks.sort_by_key(|track| track.id);
@@ -288,7 +288,7 @@ pub fn ordered_form(tracks: &[Track], walls: &[Wall]) -> Vec<u8> {
     listing(commands(&tracks, &walls))
 }
 
-/// Writes the ordered form to the front of `out` and gives its length.
+/// Writes the ordered form to the front of `out` and gives its length, or 12 (SHEETS 3.9, 3.10).
 pub fn write(tracks: &[Track], walls: &[Wall], out: &mut [u8]) -> Result<usize, Refusal> {
     check(tracks, walls)?;
     let bytes = ordered_form(tracks, walls);

@@ -1,4 +1,4 @@
-//! The rolls that document 01 gives for its sheets.
+//! The rolls of the starred sheets.
 
 use reference::chosen::document;
 use reference::roll::{roll, roll_bytes, Row};

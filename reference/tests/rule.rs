@@ -1,4 +1,4 @@
-//! The rolls held against the rule of ending itself, sentence by sentence, with the other rows'
+//! The rolls held against the rule of ending itself (SHEETS 4.11), with the other rows'
 //! times put in for the other tips' ends. Nothing here goes by the order of events.
 
 use reference::chosen;

@@ -1,4 +1,4 @@
-//! Reading and writing: document 01's sheets, the ordered form, round trips, orders of commands.
+//! Reading and writing: the starred sheets, the ordered form, round trips, orders of commands.
 
 use reference::chosen::{self, document, track, wall};
 use reference::made_up;

@@ -1,4 +1,4 @@
-//! The lines of document 01's refusal table, each with examples of its own.
+//! The lines of the refusal table (SHEETS 3.1), each with examples of its own.
 
 use reference::chosen::{self, together, track, tracks, wall, walls};
 use reference::refusal::Refusal;

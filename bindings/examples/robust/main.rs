@@ -1,4 +1,4 @@
-//! `robust [SEED] [COUNT]`: the proved library against the outside implementation on made-up inputs, every second one damaged.
+//! `robust [SEED] [COUNT]`: the proved library against the reference implementation on made-up inputs, every second one damaged.
 //! Each input is made from the seed and its number alone. The input and the buffers lie right after or right before a page that nobody
 //! may touch: an access outside ends the program.
 

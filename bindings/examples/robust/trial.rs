@@ -1,4 +1,4 @@
-//! One input: what the outside implementation expects of each function, worked out once, and the calls that are compared with it.
+//! One input: what the reference implementation expects of each function, worked out once, and the calls that are compared with it.
 
 use crate::guarded::{Guarded, SIDES};
 use fissures::{Cell, GridRoll, Session, ROW};

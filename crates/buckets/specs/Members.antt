@@ -1,4 +1,4 @@
--- For each cell of the grid the tips that have entered it ("an event is a cell entered", document 01, "Grid, events, cells"):
+-- For each cell of the grid the tips that have entered it (SHEETS 6.8):
 -- one linked list per cell, all in one list of numbers. g is at most 32, so there are at most 1024 cells.
 use Prim.Native.Nat.{ℕ, zero, suc, _+_, _*_, _<_, _≤_}
 use mathlib.Core.Path.{_≡_}

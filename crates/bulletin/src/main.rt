@@ -1,4 +1,4 @@
-// A bulletin: the first three endings on a sheet, and how many tracks then still run; or the sheet's refusal.
+// A bulletin (SHEETS 9.4): the first three endings on a sheet, and how many tracks then still run; or the sheet's refusal.
 //     target/bin/bulletin < examples/E.sheet
 // The smallest whole program over the interface crate `fissures`; `bulletin` says what is printed.
 ghost use mathlib.Core.Path.{_≡_};
@@ -62,7 +62,7 @@ fn bulletin(sheet: &[u8], out: &mut [u8]) -> usize
     }
 }
 
-// The first 5,131 bytes decide every sheet.
+// The first 5,131 bytes decide every sheet (SHEETS 2.10).
 fn main() {
     let mut sheet = [0u8; 5132];
     let length = io::read_full(STDIN_FILENO, &mut sheet);

@@ -1,4 +1,4 @@
-// The causes that end a tip, and which of them comes first (document 01, "The rule of ending").
+// The causes that end a tip, and which of them comes first (SHEETS 4.6, 4.9).
 ghost use mathlib.Core.Path.{_≡_};
 ghost use mathlib.Core.Bool.{true, false};
 ghost use Prim.Native.Nat.{_+_, _≤_, _<_};
@@ -27,7 +27,7 @@ pub struct Cause {
     pub sd: u64,
 }
 
-// Does a come before b: by time, then "a track counts before a wall, a wall before the edge", then "the smallest id is named"?
+// Does a come before b: by time, then tracks, walls and the edge in this order, then by id (SHEETS 4.6, 4.9)?
 fn ahead(a: Cause, b: Cause) -> bool
     requires { ⌜ Fine a × Fine b ⌝ }
     ensures { λ r. ⌜ Tells a b r ⌝ }

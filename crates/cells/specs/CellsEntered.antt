@@ -1,4 +1,4 @@
--- The number of cells entered on a sheet, by the test of each cell of the grid.
+-- The number of cells entered on a sheet (SHEETS 6.6), by the test of each cell of the grid.
 -- Nobody need believe this file: `is-counted` and `the-count` in proofs/CellsEntered.antt show that the number is the one that `Counted` tells of.
 use mathlib.Core.Bool.{Bool, cond}
 use mathlib.Core.List.{List, [], _∷_, _++_}

@@ -1,4 +1,4 @@
--- Whether one named cell holds a point of a trace, as a test: the tip comes into its column and its row before it leaves one of them, and before its end.
+-- Whether one named cell holds a point of a trace (SHEETS 6.3), as a test: the tip comes into its column and its row before it leaves one of them, and before its end.
 -- Nobody need believe this file: `has-point-true` and `has-point-false` in proofs/Entry.antt tie the test to `HasPoint`.
 use mathlib.Core.Bool.{Bool}
 use Prim.Native.Nat.{ℕ, suc, _*_, _-_, _≤_}

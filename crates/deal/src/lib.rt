@@ -1,4 +1,4 @@
-// What the grid run does at an event: a cell entered, a track, a wall or the edge reached (document 01, "Grid, events, cells").
+// What the grid run does at an event: a cell entered, a track, a wall or the edge reached (SHEETS 6.8).
 ghost use mathlib.Core.Path.{_≡_};
 ghost use mathlib.Core.List.{List};
 ghost use Rattle.sheet.specs.Listing.{Listing};

@@ -26,7 +26,7 @@ pub record Readable (n : ℕ) (table spots place : List ℕ) : Type 0 where
   pub spots-long : length spots ≡ 512
   pub each : (j : ℕ) → Present place j → (j < n) × (spotAt spots j .column ≤ 100) × (spotAt spots j .row ≤ 100) × (causeAt table j .id ≤ 65535)
 
--- "Events leave the heap by exact time."
+-- the first pending event leaves the heap (SHEETS 6.8)
 pub record Happened (starts speeds : List ℕ) (s : ℕ) (table spots keys : List ℕ) (p : ℕ) (heap : List ℕ) (r : Happening) (heap′ place′ : List ℕ) : Type 0 where
   pub popped : Popped keys p heap (r .tip) heap′ place′
   pub is : r .event ≡ eventOf (keyAt keys (r .tip) .late) (next (trackAt starts speeds (r .tip)) s (spotAt spots (r .tip))) (causeAt table (r .tip))

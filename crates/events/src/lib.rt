@@ -1,4 +1,4 @@
-// The next event of the grid run, and what is done where something is reached (document 01, "Grid, events, cells").
+// The next event of the grid run, and what is done where something is reached (SHEETS 6.8).
 ghost use mathlib.Core.Path.{_≡_};
 ghost use Prim.Native.Nat.{_+_, _*_, _≤_, _<_};
 ghost use lib.ListN.{length};

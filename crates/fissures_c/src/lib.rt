@@ -1,4 +1,4 @@
-// The library for other languages: numbers and byte slices only. Each function answers 0, or the table's number of the refusal, and
+// The library for other languages (SHEETS 11): numbers and byte slices only. Each function answers 0, or the table's number of the refusal, and
 // stores the other number that it returns: the place or length of a refusal, or what an accepted call gives.
 ghost use mathlib.Core.Path.{_≡_};
 ghost use lib.ListN.{length};
@@ -132,7 +132,7 @@ pub extern "C" fn fissure_cells(
     }
 }
 
-// Reads a sheet of which `shown` rows have been shown and writes the next n rows, or those left if fewer; gives their number, and in
+// Reads a sheet of which `shown` rows have been shown and writes the rows of an advance by n (SHEETS 7.2); gives their number, and in
 // `after` how many rows have then been shown: `shown` as it came on a refusal.
 #[no_mangle]
 pub extern "C" fn fissure_advance(

@@ -7,7 +7,7 @@ use Rattle.rule.specs.Selection.{rollOf}
 use Rattle.row.specs.Written.{Written}
 use Rattle.cells.specs.CellsEntered.{cellsEntered}
 
--- "The grid run reports the cells entered: the number of cells holding a point of the trace, summed over traces."
+-- the rows written, and the cells entered (SHEETS 6.6, 6.9)
 pub record Ran (S : Listing) (g : ℕ) (before exit : List ℕ) (cells : ℕ) : Type 0 where
   pub written : Written (rollOf S) before exit
   pub counted : cells ≡ cellsEntered S g

@@ -1,5 +1,5 @@
 // The grid run: events leave a heap by exact time, and a tip looks only at the tips and walls of the cells that it enters
-// (document 01, "Grid, events, cells"; the field's event-driven simulation with geometric hashing).
+// (SHEETS 6.8; the field's event-driven simulation with geometric hashing).
 ghost use mathlib.Core.Path.{_≡_};
 ghost use Prim.Native.Nat.{ℕ, _*_, _≤_};
 ghost use lib.ListN.{length};

@@ -1,4 +1,4 @@
--- Demand 3: `demand`; `demand-bytes` for a sheet's bytes, `demand-records` for records handed in. The statement is specs/Demand.antt.
+-- One sheet, one roll (SHEETS 10.1, 10.2): `demand`; `demand-bytes` for a sheet's bytes, `demand-records` for records handed in. The statement is specs/Demand.antt.
 use mathlib.Core.Path.{_≡_, refl, sym, ap, _∙_, subst}
 use mathlib.Core.Bool.{Bool, true, false}
 use mathlib.Core.List.{List, _++_, Permᴰ·symm}

@@ -1,4 +1,4 @@
--- Demand 3 (document 01, "What the contracts carry"): "a single claim about a sheet, all orders of its commands before 00 and all six figures together". Proved as `demand` in proofs/Demand.antt.
+-- One sheet, one roll (SHEETS 10.1, 10.2): one claim about a sheet in every order of its commands, by both runs and at the six figures. Proved as `demand` in proofs/Demand.antt.
 use mathlib.Core.Path.{_≡_}
 use mathlib.Core.Logic.{_↔_}
 use mathlib.Core.List.{List, _++_, List·Permᴰ}
@@ -27,44 +27,45 @@ use Rattle.grid_run.specs.declared.GridRolled.{GridRolled}
 use Rattle.grid_run.specs.declared.GridRolled.the-variants.{Rows, Refused}
 use Rattle.grid_run.specs.GridRolled.{gridRolled, GridRolls}
 
--- The sheet of commands l as a caller may give it: in bytes, in any order of the commands before 00; or as records.
--- "Records handed in count as the sheet that lists them."
+-- The sheet of commands l as a caller may give it (SHEETS 2.5, 10.1): in bytes, in any order of the commands before 00; or as records,
+-- which stand for the sheet that lists them (SHEETS 2.8).
 -- With the verdict and the records that the contracts speak of: those of plain_roll_bytes and grid_roll_bytes, and those of plain_roll and grid_roll.
 pub data Given (l : List Command) : Returned → Listing → Type 0 where
   in-bytes : (k : List Command) → List·Permᴰ l k → Given l (verdictOf (encodeAll k)) (listing (commandsOf (encodeAll k)))
   in-records : (s : Sheet) → List·Permᴰ l (commandsIn (handedIn s)) → Given l (checkOf s) (handedIn s)
 
--- "only 12 can refuse either run", and a refusal writes nothing; else the roll's bytes are written, and nothing behind them
+-- 12 alone can refuse a run (SHEETS 10.1), and then nothing is written; else the roll's bytes are written, and nothing behind them (SHEETS 3.10)
 pub data Outcome (roll : List Row) (before exit : List ℕ) : Returned → Type 0 where
   too-short : length before < 29 * length roll → exit ≡ before → Outcome roll before exit (refused 12 (29 * length roll))
   written : 29 * length roll ≤ length before → exit ≡ rollBytes roll ++ drop (29 * length roll) before → Outcome roll before exit (gives (length roll))
 
--- "It carries this count in its result."
+-- the count beside the rows (SHEETS 6.9)
 abbrev pub Reports : ℕ → GridRolled → Type 0
 Reports n (Rows rows cells) = cells ≡ n
 Reports n (Refused number place) = Unit {0}
 
+-- of an accepted sheet (SHEETS 10.1, 10.2)
 pub record Demand3 (l : List Command) : Type 0 where
-  -- "the rows, in roll order, of the set of endings that meets the rule"
+  -- its one roll (SHEETS 4.12, 5.5)
   pub roll : List Row
   pub is-roll : RollOf (listing l) roll
   pub no-other-roll : (q : List Row) → RollOf (listing l) q → q ≡ roll
-  -- "the set": whatever meets the rule has these rows and no other
+  -- its one set of endings (SHEETS 4.12): whatever meets the rule has these rows and no other
   pub no-other-set : (q : List Row) → MeetsRows (listing l) q → (r : Row) → (r ∈ q) ↔ (r ∈ roll)
   pub one-each : length roll ≡ length (tracksOf l)
-  -- for each figure the cells with a point of a trace, summed over traces, have one number; only this depends on the figure
+  -- the cells entered (SHEETS 6.6): there is one such number for each figure, and only this depends on the figure (SHEETS 10.2)
   pub counted : (g : ℕ) → Figure g → Counted (timeOf roll) g (tracksOf l) (cellsEntered (listing l) g)
   pub no-other-count : (g n : ℕ) → Figure g → Counted (timeOf roll) g (tracksOf l) n → n ≡ cellsEntered (listing l) g
   -- no trace has a point in more than 2g − 1 cells; so the sum is at most that for each track
   pub few : (g : ℕ) → Figure g → (a : Track) → a ∈ tracksOf l → (k : List Cell) → CellsOf a (timeOf roll (a .id)) (side g) k → length k ≤ 2 * g - 1
   pub few-in-all : (g : ℕ) → Figure g → cellsEntered (listing l) g ≤ length (tracksOf l) * (2 * g - 1)
-  -- "all orders of its commands before 00": each is accepted, and the rule says the same of it
+  -- each order of the commands (SHEETS 10.1) is accepted, and the rule says the same of it
   pub all-accepted : (v : Returned) (S : Listing) → Given l v S → v ≡ accepted
   pub one-rule : (v : Returned) (S : Listing) → Given l v S → (q : List Row) → MeetsRows (listing l) q ↔ MeetsRows S q
   -- what the contracts of plain_roll and plain_roll_bytes then come to
   pub by-plain : (v : Returned) (S : Listing) → Given l v S → (before exit : List ℕ) (r : Rolled) → Rolls v S before exit r → Outcome roll before exit (rolled r)
-  -- and those of grid_roll and grid_roll_bytes, at "all six figures"
+  -- and those of grid_roll and grid_roll_bytes, at each of the six figures
   pub by-grid : (v : Returned) (S : Listing) (g : ℕ) → Given l v S → Figure g → (before exit : List ℕ) (r : GridRolled) → GridRolls v S g before exit r → Outcome roll before exit (gridRolled r .returned) × Reports (cellsEntered (listing l) g) r
-  -- "The rolls written are equal row for row": any order by the plain run, any order and any figure by the grid run
+  -- one and the same roll is written (SHEETS 10.1): any order by the plain run, any order and any figure by the grid run
   pub equal : (v w : Returned) (S T : Listing) (g : ℕ) → Given l v S → Given l w T → Figure g → (plain plain′ grid grid′ : List ℕ) (p : Rolled) (r : GridRolled) →
       Rolls v S plain plain′ p → GridRolls w T g grid grid′ r → 29 * length roll ≤ length plain → 29 * length roll ≤ length grid → take (29 * length roll) plain′ ≡ take (29 * length roll) grid′

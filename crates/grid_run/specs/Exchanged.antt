@@ -1,4 +1,4 @@
--- What two listings give, the first by the plain run and the second by the grid run.
+-- What two listings give, the first by the plain run and the second by the grid run (SHEETS 10.1).
 use mathlib.Core.Path.{_≡_}
 use mathlib.Core.Logic.{_↔_}
 use mathlib.Core.List.{List, List·Permᴰ}
@@ -13,13 +13,13 @@ use Rattle.plain_run.specs.Rolled.{Rolls, needed}
 use Rattle.grid_run.specs.declared.Exchanged.{Exchanged}
 use Rattle.grid_run.specs.GridRolled.{GridRolls}
 
--- the second lists the commands of the first in another order; each is its commands and then 00
+-- the second lists the commands of the first in another order (SHEETS 2.5); each is its commands and then 00
 pub record OtherOrder (first second : List ℕ) : Type 0 where
   pub first-whole : first ≡ encodeAll (commandsOf first)
   pub second-whole : second ≡ encodeAll (commandsOf second)
   pub order : List·Permᴰ (commandsOf first) (commandsOf second)
 
--- the listings, the figure, and the two buffers at entry
+-- the listings, the figure, and the two buffers at entry (SHEETS 10.1)
 pub record Entry : Type 0 where
   pub first : List ℕ
   pub second : List ℕ
@@ -27,13 +27,13 @@ pub record Entry : Type 0 where
   pub plain : List ℕ
   pub grid : List ℕ
 
--- both accepted or neither; "The rolls written are equal row for row" where both buffers are long enough
+-- both accepted or neither (SHEETS 3.7); one and the same roll is written where both buffers are long enough (SHEETS 10.1)
 pub record Agree (e : Entry) (plain grid : List ℕ) : Type 0 where
   pub alike : (verdictOf (e .first) ≡ accepted) ↔ (verdictOf (e .second) ≡ accepted)
   pub equal : let S = listing (commandsOf (e .first)) in
       verdictOf (e .first) ≡ accepted → Figure (e .figure) → needed S ≤ length (e .plain) → needed S ≤ length (e .grid) → take (needed S) plain ≡ take (needed S) grid
 
--- what each run answers and writes, and that they agree
+-- what each run answers and writes, and that they agree (SHEETS 10.1)
 pub record Exchanges (e : Entry) (plain grid : List ℕ) (r : Exchanged) : Type 0 where
   pub by-plain : Rolls (verdictOf (e .first)) (listing (commandsOf (e .first))) (e .plain) plain (r .plain)
   pub by-grid : GridRolls (verdictOf (e .second)) (listing (commandsOf (e .second))) (e .figure) (e .grid) grid (r .grid)

@@ -1,5 +1,5 @@
-// The grid run as callers reach it: records or bytes in, the roll's rows and the count of cells out (document 01, "Grid, events, cells" and
-// "Returned on refusal"). Demand 3, that it gives the plain run's rows, is specs/Demand.antt.
+// The grid run as callers reach it: records or bytes in, the roll's rows and the count of cells out (SHEETS 6.9). That it gives the plain
+// run's rows (SHEETS 10.1) is specs/Demand.antt.
 ghost use Rattle.sheet.specs.Listing.{listing};
 ghost use Rattle.sheet.specs.Returned.{accepted};
 ghost use Rattle.sheet.specs.Scan.{verdictOf, commandsOf};

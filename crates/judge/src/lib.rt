@@ -1,4 +1,4 @@
-// The table's tests on one command and on two (document 01, "Returned on refusal"), exact: products in 64 bits.
+// The table's tests on one command and on two (SHEETS 3.1, 3.5, 3.6), exact: products in 64 bits.
 // `|` and `&` where both sides are cheap, an early return where the first test nearly always decides.
 ghost use mathlib.Core.Path.{_≡_};
 ghost use mathlib.Core.Bool.{_&&_, _||_, cond};
@@ -52,7 +52,7 @@ pub fn off_sheet(c: Command) -> bool
     }
 }
 
-// 5: a speed below -63 or above 63, or both 0.
+// 5: a speed outside −63 to 63, or both speeds 0.
 pub fn wrong_speed(c: Command) -> bool
     ensures { λ r. ⌜ r ≡ table.wrongSpeed c ⌝ }
 {
@@ -62,7 +62,7 @@ pub fn wrong_speed(c: Command) -> bool
     }
 }
 
-// 6: a wall with equal ends.
+// 6: the wall's two ends are one point.
 pub fn equal_ends(c: Command) -> bool
     ensures { λ r. ⌜ r ≡ table.equalEnds c ⌝ }
 {
@@ -133,7 +133,7 @@ fn in_line(a: Track, w: Wall) -> bool
     )
 }
 
-// The start of a is on the wall w, ends included.
+// The start of a is on the wall w (SHEETS 3.5).
 pub fn start_on(a: Track, w: Wall) -> bool
     ensures { λ r. ⌜ r ≡ table.startOn a w ⌝ }
 {
@@ -166,7 +166,7 @@ pub fn ahead(a: Track, b: Track) -> bool
     onward(gap(a.x, b.x), gap(a.y, b.y), wide(a.vx), wide(a.vy))
 }
 
-// Each start is ahead of the other tip.
+// The two tips face each other (SHEETS 3.6).
 pub fn facing(a: Track, b: Track) -> bool
     ensures { λ r. ⌜ r ≡ table.facing a b ⌝ }
 {

@@ -1,4 +1,4 @@
--- A worked case: sheet A of document 01 at g = 8. Track 1 ends before it leaves the first cell, track 2 goes up through the cells of the first column.
+-- A worked case: sheet A (SHEETS 9) at g = 8. Track 1 ends before it leaves the first cell, track 2 goes up through the cells of the first column.
 use mathlib.Core.Path.{_≡_, refl}
 use mathlib.Core.Bool.{true, false}
 use mathlib.Core.List.{[], _∷_, List·Memᴰ·not-nil, List·Memᴰ·eq-of-singleton}

@@ -1,4 +1,4 @@
--- A tip's end as it is read from the roll's bytes. Nobody need believe this file: `ends-of-roll` in proofs/Ends.antt shows that it is the time in that tip's own row.
+-- A tip's end as it is read from the roll's bytes. Nobody need believe this file: `ends-of-roll` in proofs/Ends.antt shows that it is the time in the tip's row.
 use mathlib.Core.Bool.{cond}
 use mathlib.Core.List.{List}
 use Prim.Native.Nat.{ℕ, zero, suc, _+_}

@@ -1,4 +1,4 @@
--- What a call of the cell listing returns, and what its lent memory then holds (document 01, "Returned on refusal").
+-- What a call of the cell listing returns, and what the caller's buffer then holds (SHEETS 3.8 to 3.10, 6.10).
 use mathlib.Core.Path.{_≡_}
 use mathlib.Core.Bool.{cond, _&&_}
 use mathlib.Core.List.{List, [], _∷_, _++_}
@@ -17,27 +17,29 @@ use Rattle.listing.specs.declared.Listed.{Listed}
 use Rattle.listing.specs.declared.Listed.the-variants.{Count, Refused}
 use Rattle.listing.specs.CellIds.{CellIds}
 
+-- the code's answer, in the numbers of SHEETS 3.1
 abbrev pub listed : Listed → Returned
 listed (Count n) = gives n
 listed (Refused n p) = refused n p
 
--- "ids (16 bits each)"
+-- ids in bytes, 16 bits each (SHEETS 6.10)
 unfoldable pub idBytes : List ℕ → List ℕ
 idBytes [] = []
 idBytes (i ∷ l) = leBytes 2 i ++ idBytes l
 
--- 13, then "14, 0: column or row not below g"
+-- 13, then 14 where the cell is not of the grid (SHEETS 3.1, 3.8)
 unfoldable pub cellCheck : ℕ → ℕ → ℕ → Returned
 cellCheck g column row = andThen (figureCheck g) (cond (ltb column g && ltb row g) accepted (refused 14 0))
 
--- 12 after what is said of the arguments; else the number of ids
+-- 12 after what is said of the arguments (SHEETS 3.8); else the number of ids
 abbrev pub listReturns : Returned → ℕ → ℕ → Returned
 listReturns v n lent = andThen v (orShort (2 * n) lent n)
 
+-- a cell by its column and row (SHEETS 6.2)
 abbrev pub cell : ℕ → ℕ → Cell
 cell column row = record { column = column; row = row }
 
--- the answer and the buffer's contents at exit, for a sheet with a verdict and its records. Each tip ends at "the time in that tip's own row" of the roll
+-- the answer and the buffer's contents at exit (SHEETS 6.10), for a sheet with a verdict and its records. Each tip ends by its own row of the roll (SHEETS 4.11)
 pub record Lists (v : Returned) (S : Listing) (g column row : ℕ) (before exit : List ℕ) (r : Listed) : Type 0 where
   pub ids : List ℕ
   pub are : andThen v (cellCheck g column row) ≡ accepted → CellIds (timeOf (rollOf S)) (S .tracks) (side g) (cell column row) ids

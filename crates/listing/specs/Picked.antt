@@ -22,7 +22,7 @@ pub record Prepared (s : Sheet) : Type 0 where
   pub tracks-long : length (s .tracks) ≡ 256
   pub tracks-in : s .ntracks ≤ 256
 
--- .. and whose rows are there, with times that can be compared
+-- … and whose rows are there, with times that can be compared
 pub record RollIn (s : Sheet) (rows : List ℕ) : Type 0 where
   pub prepared : Prepared s
   pub rows-long : 29 * s .ntracks ≤ length rows

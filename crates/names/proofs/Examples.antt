@@ -1,4 +1,4 @@
--- The definitions, tried: "AB" for 7, an empty name for 9, "C" for 7 again, and an entry for 8 with one byte of its two.
+-- The definitions, tried: `AB` for 7, an empty name for 9, `C` for 7 again, and an entry for 8 with one byte of its two.
 use Prim.Native.Nat.{ℕ}
 use mathlib.Core.Path.{_≡_, refl}
 use mathlib.Core.List.{List, [], _∷_}

@@ -1,4 +1,4 @@
--- What a lookup gives, in the words of the document: `lookup-first` and `lookup-none`, one of which applies (`first-or-none`), and `name-bytes`; of entries that were written, `first-found` and `not-found`.
+-- What a lookup gives, as SHEETS 8.3 and 8.4 say it: `lookup-first` and `lookup-none`, one of which applies (`first-or-none`), and `name-bytes`; of entries that were written, `first-found` and `not-found`.
 use Prim.Native.Nat.{ℕ, _+_}
 use mathlib.Core.Path.{_≡_, refl, ap, _∙_}
 use mathlib.Core.Logic.{_⊎_, inl, inr}

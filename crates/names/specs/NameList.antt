@@ -1,4 +1,4 @@
--- Name lists (document 01, "Session and names"): "A name list is entries of id (16 bits), length (8), that many bytes."
+-- Name lists (SHEETS 8.1, 8.3): their entries, and the name of an id.
 use mathlib.Core.Bool.{cond}
 use mathlib.Core.List.{List, [], _∷_, _++_}
 use Prim.Native.Nat.{ℕ, zero, suc, _+_}
@@ -8,6 +8,7 @@ use Rattle.layout.specs.Bytes.{leBytes, leOf}
 use Rattle.names.specs.declared.Found.{Found}
 use Rattle.names.specs.declared.Found.the-variants.{At, Nothing}
 
+-- an id and a name (SHEETS 8.1)
 pub record Entry : Type 0 where
   pub id : ℕ
   pub name : List ℕ
@@ -17,11 +18,11 @@ entry i n = record { id = i; name = n }
 
 -- ---- writing
 
--- "id (16 bits), length (8), that many bytes", low byte first
+-- an entry's bytes (SHEETS 8.1)
 unfoldable pub entryBytes : Entry → List ℕ
 entryBytes e = leBytes 2 (e .id) ++ (leBytes 1 (length (e .name)) ++ e .name)
 
--- the entries one after the other
+-- the entries one behind the other (SHEETS 8.1)
 unfoldable pub listBytes : List Entry → List ℕ
 listBytes [] = []
 listBytes (e ∷ l) = entryBytes e ++ listBytes l
@@ -42,18 +43,18 @@ wholeEntries zero s = []
 wholeEntries (suc n) s =
     cond (leb (entryWidth s) (length s)) (entryIn s ∷ wholeEntries n (drop (entryWidth s) s)) []
 
--- all of them: an entry has three bytes or more, so the count never ends the reading
+-- all of them (SHEETS 8.1): an entry has three bytes or more, so the count never ends the reading
 unfoldable pub entriesOf : List ℕ → List Entry
 entriesOf s = wholeEntries (length s) s
 
 -- ---- looking up
 
--- "the name bytes alone of the first whole entry with that id": their place and their number, for entries that start at a place
+-- the name's bytes in the first entry with an id (SHEETS 8.3): their place and their number, for entries that start at a place
 unfoldable pub firstNamed : ℕ → List Entry → ℕ → Found
 firstNamed at [] q = Nothing
 firstNamed at (e ∷ l) q =
     cond (eqb (e .id) q) (At (at + 3) (length (e .name))) (firstNamed (at + 3 + length (e .name)) l q)
 
--- where the name of an id lies in a list
+-- where the name of an id lies in a list (SHEETS 8.3)
 unfoldable pub nameOf : List ℕ → ℕ → Found
 nameOf s q = firstNamed 0 (entriesOf s) q

@@ -1,4 +1,4 @@
-// The partner's name (document 01, "Session and names"): a part of one of two lent name lists, chosen by the kind of ending.
+// The partner's name (SHEETS 8): a part of one of two name lists, chosen by the kind of ending.
 ghost use mathlib.Core.Path.{_≡_};
 ghost use Rattle.names.specs.NameList.{nameOf};
 ghost use Rattle.names.specs.Partner.{partnerName, IsPart, IsNamed};
@@ -46,7 +46,7 @@ fn named<'a>(tracks: &'a [u8], list: &'a [u8], id: u16) -> &'a [u8]
     }
 }
 
-// "as a part of the track list for kinds 1 and 2 and of the wall list for kind 3"
+// The partner's name, in the list of its kind (SHEETS 8.2 to 8.4).
 pub fn partner_name<'a>(tracks: &'a [u8], walls: &'a [u8], ending: Ending) -> &'a [u8]
     ensures { λ r. ⌜ IsPart (tracks .entry) (walls .entry) (partnerName (now (tracks .entry)) (now (walls .entry)) ending) r ⌝ }
 {

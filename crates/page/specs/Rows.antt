@@ -1,4 +1,4 @@
--- The lines of rows, one behind the other.
+-- The lines of rows, one behind the other (SHEETS 9.1, 9.4).
 use mathlib.Core.List.{List, [], _∷_, _++_}
 use Prim.Native.Nat.{ℕ}
 use Rattle.rule.specs.declared.Row.{Row}

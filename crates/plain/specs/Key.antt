@@ -1,4 +1,4 @@
--- Which tip ends next: the roll's order, "by rising time, equal times by rising id" (document 01, "The rule of ending"), over the tips that still run.
+-- Which tip ends next: roll order, by time and then by id (SHEETS 5.5), over the tips that still run.
 use mathlib.Core.Path.{_≡_}
 use mathlib.Core.Logic.{_⊎_}
 use mathlib.Core.List.{List}

@@ -1,4 +1,4 @@
-// The plain run: chronological selection over all pairs of tips (document 01, "The rule of ending"; the field's brute-force simulation).
+// The plain run: chronological selection over all pairs of tips (SHEETS 4, 5; the field's brute-force simulation).
 // Records lie in slices: starts, speeds and walls. Only `begin` reads the walls; the turns take them along since their contracts name the sheet.
 ghost use mathlib.Core.Path.{_≡_};
 ghost use Prim.Native.Nat.{_+_, _*_, _≤_, _<_};

@@ -1,4 +1,4 @@
--- What the plain run writes is the roll of the one set of endings that meets the rule: `the-roll`, and `sheet-roll` for a sheet's bytes.
+-- What the plain run writes is the roll (SHEETS 4.12, 5.5): `the-roll`, and `sheet-roll` for a sheet's bytes.
 use mathlib.Core.Path.{_≡_, refl, ap, _∙_}
 use mathlib.Core.List.{List, _++_}
 use Prim.Native.Nat.{ℕ, _*_, _≤_}

@@ -1,4 +1,4 @@
--- What a call that rolls a sheet returns, and what its lent memory then holds (document 01, "Returned on refusal").
+-- What a call that rolls a sheet returns, and what the caller's buffer then holds (SHEETS 3.8 to 3.10, 5.6).
 use mathlib.Core.Path.{_≡_}
 use mathlib.Core.List.{List}
 use Prim.Native.Nat.{ℕ, _*_}
@@ -11,19 +11,20 @@ use Rattle.rule.specs.Selection.{rollOf}
 use Rattle.plain_run.specs.declared.Rolled.{Rolled}
 use Rattle.plain_run.specs.declared.Rolled.the-variants.{Rows, Refused}
 
+-- the code's answer, in the numbers of SHEETS 3.1
 abbrev pub rolled : Rolled → Returned
 rolled (Rows n) = gives n
 rolled (Refused n p) = refused n p
 
--- "29 bytes" a row
+-- the bytes of a roll (SHEETS 5.6)
 abbrev pub needed : Listing → ℕ
 needed S = 29 * length (S .tracks)
 
--- 12 after what is said of the arguments; else the number of rows
+-- 12 after what is said of the arguments (SHEETS 3.8); else the number of rows
 abbrev pub rollReturns : Returned → Listing → ℕ → Returned
 rollReturns v S lent = andThen v (orShort (needed S) lent (length (S .tracks)))
 
--- the answer and the buffer's contents at exit, for a sheet with a verdict and its records
+-- the answer and the buffer's contents at exit (SHEETS 3.10, 5.5, 5.6), for a sheet with a verdict and its records
 pub record Rolls (v : Returned) (S : Listing) (before exit : List ℕ) (r : Rolled) : Type 0 where
   pub answer : rolled r ≡ rollReturns v S (length before)
   pub buffer : exit ≡ after (rollReturns v S (length before)) (rollBytes (rollOf S)) before

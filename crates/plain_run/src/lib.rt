@@ -1,4 +1,4 @@
-// The plain run as callers reach it: records or bytes in, the roll's rows out (document 01, "The rule of ending" and "Returned on refusal").
+// The plain run as callers reach it: records or bytes in (SHEETS 2), the roll's rows out (SHEETS 3, 5).
 ghost use Rattle.sheet.specs.Listing.{listing};
 ghost use Rattle.sheet.specs.Returned.{accepted};
 ghost use Rattle.sheet.specs.Scan.{verdictOf, commandsOf};

@@ -21,7 +21,7 @@ use Rattle.rule.specs.declared.Row.{Row}
 use Rattle.rule.specs.Rows.{time}
 use Rattle.promises.specs.Runs.{InRoll}
 
--- a call of the writer: the lent buffer before and after it, and its answer, as its contract says
+-- a call of the writer: the caller's buffer before and after it, and its answer, as its contract says
 pub record Writes (sheet : Sheet) (before exit : List ℕ) (w : Written) : Type 0 where
   pub answer : written w ≡ writeOf sheet (length before)
   pub buffer : exit ≡ bufferAfter sheet before

@@ -10,7 +10,7 @@ use Rattle.grid_run.specs.Demand.{Demand3}
 use Rattle.promises.specs.Runs.{Run, rowCount, Room}
 
 pub record Partners (l : List Command) : Type 0 where
-  -- demand 3 in full: the one roll, that it is the rule's, what each run returns in every order and at every figure, and the cells entered
+  -- SHEETS 10.1 and 10.2 in full: the one roll, that it is the rule's, what each run returns in every order and at every figure, and the cells entered
   pub demand : Demand3 l
   -- two observatories, each with its own order, its own run and its own figure, are given the same answer
   pub same-answer :

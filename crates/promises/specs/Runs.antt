@@ -17,7 +17,7 @@ use Rattle.stored.specs.declared.Stored.the-variants.{Found}
 use Rattle.stored.specs.Stored.{rowIn}
 
 -- a call on the sheet of commands l, given in any order and as bytes or records: of either run, at any of the six figures.
--- The lent buffer before and after it, and what it returned
+-- The caller's buffer before and after it, and what it returned
 pub data Run (l : List Command) (before exit : List ℕ) : Returned → Type 0 where
   plain : {v : Returned} {S : Listing} (r : Rolled) → Given l v S → Rolls v S before exit r → Run l before exit (rolled r)
   grid : {v : Returned} {S : Listing} {g : ℕ} (r : GridRolled) → Given l v S → Figure g → GridRolls v S g before exit r → Run l before exit (gridRolled r .returned)

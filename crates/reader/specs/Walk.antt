@@ -1,4 +1,4 @@
--- The commands before a place of a sheet's bytes, "a string of one-byte commands with operands of fixed width" (document 01, "The sheet").
+-- The commands before a place of a sheet's bytes, one behind the other (SHEETS 2.1).
 use mathlib.Core.Path.{_≡_}
 use mathlib.Core.List.{List, [], _∷_}
 use Prim.Native.Nat.{ℕ, _+_}
@@ -9,11 +9,11 @@ use Rattle.sheet.specs.declared.Item.the-variants.{Add}
 use Rattle.sheet.specs.Format.{itemAt, width}
 use Rattle.sheet.specs.Listing.{tracksOf, wallsOf}
 
--- a place at which a whole command stands
+-- a place at which a whole command stands (SHEETS 2.1)
 abbrev pub WholeAt : List ℕ → ℕ → Type 0
 WholeAt s at = (c : Command) × (itemAt s at ≡ Add c)
 
--- from place p up to place q these commands stand, one behind the other
+-- from place p up to place q these commands stand, one behind the other (SHEETS 2.1)
 abbrev pub Walk : List ℕ → ℕ → ℕ → List Command → Type 0
 Walk s p q [] = p ≡ q
 Walk s p q (c ∷ l) = (itemAt s p ≡ Add c) × Walk s (p + width c) q l

@@ -1,4 +1,4 @@
-// Reading a sheet's bytes (document 01, "The sheet" and "Returned on refusal"): the verdict on them, and the records of those that are accepted.
+// Reading a sheet's bytes (SHEETS 2, 3): the verdict on them, and the records of those that are accepted.
 ghost use mathlib.Core.Path.{_≡_};
 ghost use mathlib.Core.List.{List, []};
 ghost use mathlib.Core.Bool.{cond};

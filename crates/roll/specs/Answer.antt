@@ -1,4 +1,4 @@
--- What `roll` prints (document 01, "Sheets to try").
+-- What `roll` prints (SHEETS 9.1, 9.2).
 use mathlib.Core.List.{List, [], _++_}
 use Prim.Native.Nat.{ℕ}
 use lib.ListN.{length}
@@ -9,7 +9,7 @@ use Rattle.cells.specs.CellsEntered.{cellsEntered}
 use Rattle.text.specs.Lines.{headOf, refusedOf}
 use Rattle.page.specs.Rows.{linesOf}
 
--- for a sheet with a verdict and its records: the tracks and the cells entered on the grid of figure 8, then the rows of the roll; or the refusal
+-- for a sheet with a verdict and its records: the head line with the cells entered at the figure 8, then the rows' lines (SHEETS 9.1); or the line of the refusal (SHEETS 9.2)
 unfoldable pub answerOf : Returned → Listing → List ℕ
 answerOf accepted S = headOf (length (S .tracks)) (cellsEntered S 8) ++ linesOf (rollOf S)
 answerOf (gives n) S = []

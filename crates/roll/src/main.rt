@@ -1,4 +1,4 @@
-// Reads a sheet from standard input and prints its roll, or its refusal (document 01, "Sheets to try"). The rows are the grid run's, the
+// Reads a sheet from standard input and prints its roll, or its refusal (SHEETS 9.1, 9.2). The rows are the grid run's, the
 // lines are put one behind the other in crate `page`; `answer` says what is printed.
 ghost use mathlib.Core.Path.{_≡_};
 ghost use Prim.Native.Nat.{_≤_};
@@ -26,7 +26,7 @@ fn answer(sheet: &[u8], out: &mut [u8]) -> usize
     }
 }
 
-// The first 5,131 bytes decide every sheet: 256 tracks, 256 walls, and one command more with its operands (`reads-enough` in
+// The first 5,131 bytes decide every sheet (SHEETS 2.10): 256 tracks, 256 walls, and one command more with its operands (`reads-enough` in
 // proofs/Answered.antt).
 fn main() {
     let mut sheet = [0u8; 5132];

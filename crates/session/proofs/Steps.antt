@@ -125,7 +125,7 @@ so-far {S} (reset s w a r p h e) =
 so-far {S} (not-reset s w a r m q p h e) =
     subst (λ (t : Session). SoFar S t w a) (sym (h .session ∙ ap (λ (x : Returned). restart x s) (sym (h .answer) ∙ e))) (so-far p)
 
--- "as many rows as the steps named or those left", which are those that the session counts
+-- as many rows as the steps named or were left (SHEETS 7.2), which are those that the session counts
 module _ {S : Listing} {s : Session} {w : List ℕ} {a : ℕ} (p : Steps S s w a) where
   pub as-many : length w ≡ 29 * min a (length (rollOf S))
   as-many = ap length (so-far p .bytes) ∙ roll-bytes-length (take a (rollOf S)) ∙ ap (λ (j : ℕ). 29 * j) (length-take a (rollOf S))

@@ -1,4 +1,4 @@
--- What the calls on a stepping session give and hand back (document 01, "Session and names" and "Returned on refusal").
+-- What the calls on a stepping session give and hand back (SHEETS 7, 3.8 to 3.10).
 use mathlib.Core.Path.{_≡_}
 use mathlib.Core.List.{List}
 use Prim.Native.Nat.{ℕ, _+_, _*_, min}
@@ -15,54 +15,56 @@ use Rattle.session.specs.declared.Session.{Session}
 use Rattle.session.specs.declared.Advanced.{Advanced}
 use Rattle.session.specs.declared.Begun.{Begun}
 
--- the one roll of a session's sheet
+-- the one roll of a session's sheet (SHEETS 5.5, 7.1)
 abbrev pub rollIn : Session → List Row
 rollIn s = rollOf (handedIn (s .sheet))
 
--- "rows not yet shown": none where more are shown than the roll has
+-- the rows not yet shown (SHEETS 7.4): none where more are shown than the roll has (SHEETS 7.5)
 abbrev pub rowsLeft : Session → List Row
 rowsLeft s = drop (s .shown) (rollIn s)
 
--- "the next n rows, or those left if fewer"
+-- the rows of an advance by n (SHEETS 7.2)
 abbrev pub nextRows : Session → ℕ → List Row
 nextRows s n = take n (rowsLeft s)
 
--- "A session handed in with more rows shown than its roll has counts as one with all shown"
+-- the rows shown, at most those of the roll (SHEETS 7.5)
 abbrev pub shownIn : Session → ℕ
 shownIn s = min (s .shown) (length (rollIn s))
 
 -- ---- open and reset
 
--- no row shown yet
+-- no row shown yet (SHEETS 7.1)
 abbrev pub begun : Sheet → Session
 begun sheet = record { sheet = sheet; shown = 0 }
 
--- "Reset puts that number to 0"; a refused call hands back the very session
+-- reset (SHEETS 7.3); a refused call hands back the very session (SHEETS 7.6)
 unfoldable pub restart : Returned → Session → Session
 restart accepted s = begun (s .sheet)
 restart (gives n) s = begun (s .sheet)
 restart (refused n p) s = s
 
--- "its sheet is refused as any sheet is"; the session handed out
+-- what opening and reset give: the verdict on the sheet (SHEETS 7.5), and the session handed out
 pub record Begins (v : Returned) (s : Session) (r : Begun) : Type 0 where
   pub answer : verdict (r .answer) ≡ v
   pub session : r .session ≡ s
 
 -- ---- advance
 
--- "Advance by n .. gives how many", or 12 with the length that this call needs
+-- the number of rows that advance writes (SHEETS 7.2), or 12 with the length that this call needs (SHEETS 3.9)
 abbrev pub advanceReturns : Returned → List Row → ℕ → Returned
 advanceReturns v rows lent = andThen v (orShort (29 * length rows) lent (length rows))
 
--- past the rows that were written; a refused call hands back the very session
+-- past the rows that were written (SHEETS 7.2, 7.6); a refused call hands back the very session
 unfoldable pub advanceSession : Returned → Session → Session
 advanceSession accepted s = s
 advanceSession (gives k) s = record { sheet = s .sheet; shown = shownIn s + k }
 advanceSession (refused n p) s = s
 
+-- the session's sheet is judged as records are (SHEETS 7.5)
 abbrev pub advanceOf : Session → ℕ → ℕ → Returned
 advanceOf s n lent = advanceReturns (checkOf (s .sheet)) (nextRows s n) lent
 
+-- the answer, the session handed back and the buffer's contents at exit (SHEETS 7.2, 7.6, 3.10)
 pub record Advances (s : Session) (n : ℕ) (before exit : List ℕ) (r : Advanced) : Type 0 where
   pub answer : rolled (r .answer) ≡ advanceOf s n (length before)
   pub session : r .session ≡ advanceSession (advanceOf s n (length before)) s
@@ -70,6 +72,6 @@ pub record Advances (s : Session) (n : ℕ) (before exit : List ℕ) (r : Advanc
 
 -- ---- the number still running
 
--- "the number of tracks still running (rows not yet shown), counted each time"
+-- the number of rows not yet shown (SHEETS 7.4)
 abbrev pub runningOf : Returned → Session → Returned
 runningOf v s = andThen v (gives (length (rowsLeft s)))

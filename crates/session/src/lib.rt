@@ -1,4 +1,4 @@
-// A stepping session: an accepted sheet and how many rows of its roll have been shown (document 01, "Session and names").
+// A stepping session (SHEETS 7): an accepted sheet and how many rows of its roll have been shown.
 // Anyone can make one with any contents, so every call judges its sheet again.
 ghost use mathlib.Core.Path.{_≡_};
 ghost use Prim.Native.Nat.{min};
@@ -64,7 +64,7 @@ impl Session {
         begin(sheet, verdict)
     }
 
-    // Writes the next n rows, or those left if fewer. `shown + n` may exceed the machine's word: it is never computed.
+    // Advance by n (SHEETS 7.2). `shown + n` may exceed the machine's word: it is never computed.
     pub fn advance(self, n: usize, out: &mut [u8]) -> Advanced
         ensures { λ r. ⌜ Advances self n (now (out .entry)) (now (out .exit)) r ⌝ }
     {
@@ -100,7 +100,7 @@ impl Session {
         }
     }
 
-    // Puts the number of rows shown to 0.
+    // No row is shown any more (SHEETS 7.3).
     pub fn reset(self) -> Begun
         ensures { λ r. ⌜ Begins (checkOf (self .sheet)) (restart (checkOf (self .sheet)) self) r ⌝ }
     {
@@ -118,7 +118,7 @@ impl Session {
         }
     }
 
-    // The number of tracks still running: the rows not yet shown.
+    // The number of tracks still running: the rows not yet shown (SHEETS 7.4).
     pub fn running(self) -> Rolled
         ensures { λ r. ⌜ rolled r ≡ runningOf (checkOf (self .sheet)) self ⌝ }
     {

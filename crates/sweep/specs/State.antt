@@ -1,4 +1,4 @@
--- What the grid run knows between two events (document 01, "Grid, events, cells"). `es` has for each tip the cells that it has entered, the newest first; `done` the rows so far, the newest first; b tips have begun.
+-- What the grid run knows between two events (SHEETS 6.8). `es` has for each tip the cells that it has entered, the newest first; `done` the rows so far, the newest first; b tips have begun.
 use mathlib.Core.Path.{_≡_}
 use mathlib.Core.Logic.{_⊎_, _≢_}
 use mathlib.Core.List.{List, [], _∷_}

@@ -1,4 +1,4 @@
--- A line copied to the lent buffer. Main theorems: `short` and `copied`, what the call returns and leaves where the buffer is too short and where it is not; `prints`, the same for the text that a line is known to hold.
+-- A line copied to the caller's buffer. Main theorems: `short` and `copied`, what the call returns and leaves where the buffer is too short and where it is not; `prints`, the same for the text that a line is known to hold.
 use mathlib.Core.Path.{_≡_, refl, sym, ap, subst, _∙_}
 use mathlib.Core.List.{List, _++_, append-assoc}
 use Prim.Native.Nat.{ℕ, suc, _+_, _≤_, _<_}

@@ -1,4 +1,4 @@
--- The printed lines as lists of ASCII bytes: "First line: tracks, cells entered. Then id, kind, partner, time, x and y in 64ths. A refusal prints `refused` and the two numbers." (document 01, "Sheets to try"). Every line ends with a newline.
+-- The printed lines as lists of ASCII bytes (SHEETS 9.1 to 9.3): the head, a row's line, a refusal. Every line ends with a newline.
 use mathlib.Core.List.{List, [], _∷_, _++_}
 use mathlib.Core.Bool.{cond}
 use Prim.Native.Nat.{ℕ, zero, suc, _+_, _/_, _%_}
@@ -6,20 +6,20 @@ use lib.Dec.{ltb}
 use Rattle.rule.specs.declared.Row.{Row}
 use Rattle.rule.specs.RowBytes.{kindOf, partnerOf}
 
--- the decimal digits of v, which has at most f of them
+-- the decimal digits of v (SHEETS 9.3), which has at most f of them
 unfoldable pub digitsWithin : ℕ → ℕ → List ℕ
 digitsWithin zero v = []
 digitsWithin (suc f) v = cond (ltb v 10) ((48 + v) ∷ []) (digitsWithin f (v / 10) ++ ((48 + v % 10) ∷ []))
 
--- the decimal digits of v, "0" for 0 and otherwise no 0 in front: v + 1 digits are always enough
+-- the decimal digits of v (SHEETS 9.3), `0` for 0 and otherwise no 0 in front: v + 1 digits are always enough
 unfoldable pub decimal : ℕ → List ℕ
 decimal v = digitsWithin (suc v) v
 
--- a number and the byte behind it: a blank (32), the time's stroke (47) or the newline (10)
+-- a number and the byte behind it (SHEETS 9.1, 9.3): a blank (32), the time's stroke (47) or the newline (10)
 unfoldable pub field : ℕ → ℕ → List ℕ
 field v mark = decimal v ++ (mark ∷ [])
 
--- `1 1 2 10/1 12800 6400`
+-- a row's line (SHEETS 9.1), as `1 1 2 10/1 12800 6400`
 unfoldable pub lineOf : Row → List ℕ
 lineOf r =
     field (r .id) 32 ++
@@ -30,30 +30,30 @@ lineOf r =
     field (r .x) 32 ++
     field (r .y) 10
 
--- "tracks "
+-- `tracks ` (SHEETS 9.1)
 abbrev pub tracksWord : List ℕ
 tracksWord = 116 ∷ 114 ∷ 97 ∷ 99 ∷ 107 ∷ 115 ∷ 32 ∷ []
 
--- "cells "
+-- `cells ` (SHEETS 9.1)
 abbrev pub cellsWord : List ℕ
 cellsWord = 99 ∷ 101 ∷ 108 ∷ 108 ∷ 115 ∷ 32 ∷ []
 
--- "refused "
+-- `refused ` (SHEETS 9.2)
 abbrev pub refusedWord : List ℕ
 refusedWord = 114 ∷ 101 ∷ 102 ∷ 117 ∷ 115 ∷ 101 ∷ 100 ∷ 32 ∷ []
 
--- `tracks 2 cells 9`
+-- the head line (SHEETS 9.1), as `tracks 2 cells 9`
 unfoldable pub headOf : ℕ → ℕ → List ℕ
 headOf tracks cells = tracksWord ++ field tracks 32 ++ cellsWord ++ field cells 10
 
--- `refused 11 9`
+-- the line of a refusal (SHEETS 9.2), as `refused 11 9`
 unfoldable pub refusedOf : ℕ → ℕ → List ℕ
 refusedOf number place = refusedWord ++ field number 32 ++ field place 10
 
--- "still running" and the newline
+-- `still running` and the newline (SHEETS 9.3, 9.4)
 abbrev pub runningWord : List ℕ
 runningWord = 115 ∷ 116 ∷ 105 ∷ 108 ∷ 108 ∷ 32 ∷ 114 ∷ 117 ∷ 110 ∷ 110 ∷ 105 ∷ 110 ∷ 103 ∷ 10 ∷ []
 
--- `1 still running`
+-- the number still running (SHEETS 9.4), as `1 still running`
 unfoldable pub stillOf : ℕ → List ℕ
 stillOf tracks = field tracks 32 ++ runningWord

@@ -1,4 +1,4 @@
-// The lines that programs `roll` (document 01, "Sheets to try") and `bulletin` print. A line is put together in a buffer of its own, then copied to the caller's.
+// The lines that programs `roll` and `bulletin` print (SHEETS 9). A line is put together in a buffer of its own, then copied to the caller's.
 ghost use mathlib.Core.Path.{_≡_};
 ghost use mathlib.Core.List.{[], _∷_, _++_};
 ghost use Prim.Native.Nat.{_+_, _≤_};
@@ -111,7 +111,7 @@ fn running_line(tracks: u64) -> Draft
     word(put_field(empty(), tracks, b' '), b"still running\n")
 }
 
-// The line copied to the lent buffer, or 12.
+// The line copied to the caller's buffer, or 12.
 fn give(line: Draft, out: &mut [u8]) -> Text
     requires { ⌜ Room line 0 ⌝ }
     ensures { λ r. ⌜ Prints (textIn line) (now (out .entry)) (now (out .exit)) r ⌝ }

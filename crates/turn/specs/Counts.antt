@@ -1,4 +1,4 @@
--- A cause that still counts: "that tip not having ended before s" (document 01, "The rule of ending").
+-- A cause that still counts: its tip had not ended before it was there (SHEETS 4.5).
 use mathlib.Core.Path.{_≡_}
 use mathlib.Core.Bool.{Bool, true, false}
 use mathlib.Core.List.{List}

@@ -1,4 +1,4 @@
--- The row of a tip that ends by a cause (document 01, "The rule of ending").
+-- The row of a tip that ends by a cause (SHEETS 4.10, 5.1).
 use mathlib.Core.Path.{_≡_}
 use Prim.Native.Nat.{ℕ, _≤_}
 use lib.ListN.{getD}
@@ -15,7 +15,7 @@ use Rattle.rule.specs.Selection.{rollOf}
 use Rattle.causes.specs.declared.Cause.{Cause}
 use Rattle.causes.specs.Cause.{candOf, Fine, Stands}
 
--- "1 track with s < t, 2 track with s = t, 3 wall, 4 edge"
+-- the kind of ending (SHEETS 4.10)
 pub data EndingOf (c : Cause) (r : Ending) : Type 0 where
   meets : c .class ≡ 0 → fraction (c .u) (c .ud) ≤ᵗ fraction (c .s) (c .sd) → r ≡ Meeting (c .id) → EndingOf c r
   crosses : c .class ≡ 0 → fraction (c .s) (c .sd) <ᵗ fraction (c .u) (c .ud) → r ≡ ByTrack (c .id) → EndingOf c r

@@ -1,5 +1,5 @@
 // What both runs do when a tip ends: the causes that no longer count are looked at again, and the tip's row is made
-// (document 01, "The rule of ending").
+// (SHEETS 4.5, 5.1).
 ghost use mathlib.Core.Path.{_≡_};
 ghost use Prim.Native.Nat.{_+_, _*_, _≤_, _<_};
 ghost use lib.ListN.{length};

@@ -1,4 +1,4 @@
-// Answers framed questions from standard input, and is held to the outside implementation's answers. A frame is its kind in one byte, the
+// Answers framed questions from standard input, and is compared with the reference implementation's answers. A frame is its kind in one byte, the
 // length of the rest in two, low byte first, and the rest. Kind 0 is a sheet's bytes (sheets.rt), 1 records handed in (records.rt),
 // any other a name that is looked up (lookup.rt).
 mod answers;

@@ -1,4 +1,4 @@
--- What a call of the writer returns, and what its lent memory then holds (document 01, "The sheet" and "Returned on refusal").
+-- What a call of the writer returns, and what the caller's buffer then holds (SHEETS 2.6, 3.8 to 3.10).
 use mathlib.Core.List.{List}
 use Prim.Native.Nat.{ℕ}
 use lib.ListN.{length}
@@ -10,17 +10,19 @@ use Rattle.sheet.specs.HandedIn.{handedIn, checkOf}
 use Rattle.writer.specs.declared.Written.{Written}
 use Rattle.writer.specs.declared.Written.the-variants.{Length, Refused}
 
+-- the code's answer, in the numbers of SHEETS 3.1
 abbrev pub written : Written → Returned
 written (Length n) = gives n
 written (Refused n p) = refused n p
 
--- "The writer gives that form"
+-- what the writer gives (SHEETS 2.6, 2.7)
 abbrev pub formOf : Sheet → List ℕ
 formOf sheet = orderedForm (handedIn sheet)
 
--- 12 after the sheet's own refusals; else the length written
+-- 12 after the sheet's own refusals (SHEETS 3.8); else the length written
 abbrev pub writeOf : Sheet → ℕ → Returned
 writeOf sheet lent = andThen (checkOf sheet) (orShort (length (formOf sheet)) lent (length (formOf sheet)))
 
+-- the buffer after the call (SHEETS 3.10)
 abbrev pub bufferAfter : Sheet → List ℕ → List ℕ
 bufferAfter sheet lent = after (writeOf sheet (length lent)) (formOf sheet) lent

@@ -1,4 +1,4 @@
-// Records handed in: checked as the sheet that lists them would be, and written in the ordered form (document 01, "The sheet").
+// Records handed in: judged as the bytes that they stand for (SHEETS 2.8), and written in the ordered form (SHEETS 2.6).
 ghost use mathlib.Core.Path.{_≡_};
 ghost use lib.ListN.{length};
 ghost use Rattle.sheet.specs.Returned.{verdict};

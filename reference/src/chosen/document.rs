@@ -1,9 +1,9 @@
-//! Document 01, "Sheets to try".
+//! The starred sheets A to K, as in examples/, and two tips on one line.
 
 use super::{track, wall};
 use crate::sheet::{listing, Command};
 
-/// Tracks of the "Limits" line: two tips on one line, facing or back to back.
+/// Two tips on one line, facing (SHEETS 3.6) or back to back.
 fn on_one_line(way: i8) -> Vec<Command> {
     vec![track(1, 0, 0, way, 0), track(2, 10, 0, -way, 0)]
 }
@@ -21,7 +21,7 @@ fn sheet_e() -> Vec<Command> {
     ]
 }
 
-/// Each sheet's name and bytes; "H passed" and "I up" are the second halves of H and I.
+/// Each sheet's name and bytes; `H passed` and `I up` are the second halves of H and I.
 pub fn sheets() -> Vec<(&'static str, Vec<u8>)> {
     let first = track(1, 100, 100, 10, 0);
     let sheets = [
@@ -47,5 +47,5 @@ pub fn sheets() -> Vec<(&'static str, Vec<u8>)> {
 /// The bytes of the sheet with that name.
 pub fn sheet(name: &str) -> Vec<u8> {
     let found = sheets().into_iter().find(|(other, _)| *other == name);
-    found.expect("a sheet of document 01").1
+    found.expect("a sheet of this name").1
 }

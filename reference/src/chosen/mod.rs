@@ -1,4 +1,4 @@
-//! Chosen sheets: document 01's own, each line of its refusal table at its limits, and endings
+//! Chosen sheets: the starred ones, each line of the refusal table at its limits, and endings
 //! that the rule has to tell apart.
 
 pub mod document;

@@ -1,4 +1,4 @@
-//! Two or more rules broken by one command: the order 1, 2, 7, 4, 5, 6, 8, 9, 10, 11.
+//! Two or more rules broken by one command: the order of SHEETS 3.4.
 //!
 //! 9 comes with none of 4, 10 and 11: what was there first would itself have been refused, and no
 //! start is ahead of itself. 4 does not come with 10 for a track, since walls are inside the sheet.

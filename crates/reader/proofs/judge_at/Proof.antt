@@ -1,4 +1,4 @@
--- The table's lines in document 01's order: the count, the command by itself, the commands before it.
+-- The table's lines in the order of SHEETS 3.4: the count, the command by itself, the commands before it.
 use borrow.Author.Needs.{needs}
 use mathlib.Core.Path.{sym, _∙_}
 use Rattle.reader.proofs.Scanning.{breaks-count, breaks-alone, breaks-none, breaks-pair}
