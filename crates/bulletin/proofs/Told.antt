@@ -6,7 +6,7 @@ use native.Mathlib.Omega.{arith}
 use lib.ListN.{length, take, drop, length-take, length-drop}
 use Rattle.layout.specs.Bytes.{AllBytes}
 use Rattle.sheet.specs.HandedIn.{handedIn, checkOf, sheetOf}
-use Rattle.sheet.specs.Lent.{andThen, orShort}
+use Rattle.sheet.specs.Lent.{andThen}
 use Rattle.sheet.specs.Listing.{Listing, listing}
 use Rattle.sheet.specs.Returned.{Returned, accepted, gives, refused}
 use Rattle.sheet.specs.Scan.{verdictOf, commandsOf}

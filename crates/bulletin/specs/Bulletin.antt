@@ -1,4 +1,4 @@
--- What the bulletin shows of a sheet's bytes and prints: the front of the sheet's one roll, or its refusal.
+-- What the bulletin shows of a sheet's bytes and prints: the front of the sheet's one roll, or its refusal (SHEETS 9.4).
 use mathlib.Core.Path.{_≡_}
 use mathlib.Core.List.{List, [], _++_}
 use Prim.Native.Nat.{ℕ}

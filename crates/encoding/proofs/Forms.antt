@@ -1,11 +1,11 @@
 -- Runs of commands put together to a sheet: `ran-both` (one run behind another), `closed` (a run and the end are a whole form).
-use Prim.Native.Nat.{ℕ, zero, suc, _≤_, _<_, _+_, _*_}
+use Prim.Native.Nat.{ℕ, _≤_, _<_, _+_, _*_}
 use mathlib.Core.Path.{_≡_, refl, sym, ap, _∙_}
 use mathlib.Core.List.{List, [], _∷_, _++_, append-assoc, append-nil, map, map-append}
 use native.Mathlib.Nat.{mul-le-mul-right}
 use native.Mathlib.Decide.{decLe}
 use native.Mathlib.Omega.{arith}
-use lib.ListN.{length, take, drop, set, length-append, length-map, length-take}
+use lib.ListN.{length, take, drop, set, length-append, length-take}
 use lib.Seq.{sets, take-all, take-at, take-append-le, length-take-le}
 use Rattle.layout.proofs.Stores.{sets-both, sets-front}
 use Rattle.sheet.specs.declared.Track.{Track}

@@ -1,5 +1,5 @@
 -- What the lines 4 to 6 and 8 to 11 of the table (SHEETS 3.1) say of one command, and of one with another before it.
-use mathlib.Core.Bool.{Bool, true, false, cond}
+use mathlib.Core.Bool.{cond}
 use mathlib.Core.List.{List, [], _∷_}
 use Prim.Native.Nat.{ℕ}
 use lib.Dec.{ltb}

@@ -1,5 +1,4 @@
--- A part as the code says it.
-use Prim.Native.Nat.{ℕ}
+-- Where the part lies that is handed back, as the code says it (SHEETS 8.3, 8.4).
 use Rattle.names.specs.declared.place.Place.{Place}
 use Rattle.names.specs.declared.place.Place.the-variants.{OfTracks, OfWalls}
 use Rattle.names.specs.Partner.{Part, ofTracks, ofWalls}

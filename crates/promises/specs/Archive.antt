@@ -1,5 +1,5 @@
 -- What the archive relies on. It keeps sheets, and one that was read and written again is the same sheet; it keeps times as fractions, and
--- there is one fraction for one time. Proved of the bytes of every accepted sheet as `archive` in proofs/Archive.antt.
+-- there is one fraction for one time (SHEETS 2.7, 5.3). Proved of the bytes of every accepted sheet as `archive` in proofs/Archive.antt.
 use mathlib.Core.Path.{_≡_}
 use mathlib.Core.List.{List, List·Permᴰ}
 use Prim.Native.Nat.{ℕ, _≤_, _<_}

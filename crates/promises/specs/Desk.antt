@@ -1,5 +1,5 @@
 -- What the duty desk relies on. It steps through the roll, and tips that end together keep one order at every refresh: after the same keys
--- on any order of the sheet's commands the same rows are shown and the cursor stands on the same fissure. Proved of every accepted sheet as `desk` in proofs/Desk.antt.
+-- on any order of the sheet's commands the same rows are shown and the cursor stands on the same fissure (SHEETS 7.7). Proved of every accepted sheet as `desk` in proofs/Desk.antt.
 use mathlib.Core.Path.{_≡_}
 use mathlib.Core.Bool.{cond}
 use mathlib.Core.List.{List, [], _∷_, _++_, List·Permᴰ}

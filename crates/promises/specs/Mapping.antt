@@ -1,5 +1,5 @@
--- What the mapping section relies on. It draws the end points, and each trace ends on the wall or the trace that its row names.
--- Proved of every accepted sheet as `mapping` in proofs/Mapping.antt.
+-- What the mapping section relies on. It draws the end points, and each trace ends on the wall or the trace that its row names
+-- (SHEETS 4.5, 4.10, 5.4). Proved of every accepted sheet as `mapping` in proofs/Mapping.antt.
 use mathlib.Core.Path.{_≡_}
 use mathlib.Core.Logic.{_≢_}
 use mathlib.Core.List.{List}

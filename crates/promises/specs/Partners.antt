@@ -1,4 +1,4 @@
--- What partner observatories rely on. They list the tips in their own order and choose their own figure, and neither shows in a row.
+-- What partner observatories rely on. They list the tips in their own order and choose their own figure, and neither shows in a row (SHEETS 10.1).
 -- Proved of every accepted sheet as `partners` in proofs/Partners.antt.
 use mathlib.Core.Path.{_≡_}
 use mathlib.Core.List.{List}

@@ -1,4 +1,4 @@
--- The runs of one sheet, and the rows that they leave in their buffers: Mapping, Partners and Archive speak of these.
+-- The runs of one sheet, and the rows that they leave in their buffers: Mapping, Partners and Archive speak of these (SHEETS 10.1, 5.8).
 use mathlib.Core.Path.{_≡_}
 use mathlib.Core.List.{List}
 use Prim.Native.Nat.{ℕ, _*_, _≤_, _<_}

@@ -2,7 +2,7 @@
 -- front of the one roll, in order, as many rows as the steps named or those left). `within` and `kept` speak of any session. That it is
 -- so for every order of the sheet's commands is the promise to the desk (crate `promises`).
 use mathlib.Core.Path.{_≡_, refl, sym, ap, ap₂, _∙_, subst}
-use mathlib.Core.List.{List, [], _++_, List·Permᴰ}
+use mathlib.Core.List.{List, [], _++_}
 use Prim.Native.Nat.{ℕ, _+_, _-_, _*_, _≤_, min}
 use native.Mathlib.Nat.{zero-min}
 use native.Mathlib.Omega.{arith}
@@ -10,21 +10,17 @@ use lib.ListN.{length, take, drop, length-take, length-drop}
 use lib.Seq.{take-at, take-add}
 use Rattle.layout.specs.Bytes.{AllBytes}
 use Rattle.sheet.specs.declared.Sheet.{Sheet}
-use Rattle.sheet.specs.declared.Command.{Command}
-use Rattle.sheet.specs.Format.{encodeAll}
 use Rattle.sheet.specs.Listing.{Listing, listing}
 use Rattle.sheet.specs.Returned.{Returned, accepted, gives, refused, verdict}
 use Rattle.sheet.specs.Scan.{verdictOf, commandsOf}
 use Rattle.sheet.specs.HandedIn.{handedIn, listedForm, checkOf, sheetOf}
 use Rattle.sheet.proofs.Decided.{decided}
 use Rattle.sheet.proofs.Lent as ending
-use Rattle.sheet.proofs.Order.{reordered}
-use Rattle.sheet.proofs.RoundTrip.{AllFit, accepted-exactly, order-verdict, handed-back, written-read}
+use Rattle.sheet.proofs.RoundTrip.{handed-back, written-read}
 use Rattle.reader.specs.Reading.{ifAccepted, recordsOf}
 use Rattle.rule.specs.declared.Row.{Row}
 use Rattle.rule.specs.RowBytes.{rollBytes}
 use Rattle.rule.specs.Selection.{rollOf}
-use Rattle.rule.proofs.OrderFree.{roll-order}
 use Rattle.rule.proofs.RowBytes.{roll-bytes-length}
 use Rattle.row.proofs.Roll.{roll-append}
 use Rattle.plain_run.specs.Rolled.{rolled}
