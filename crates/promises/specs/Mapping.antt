@@ -14,7 +14,7 @@ use Rattle.rule.specs.declared.Row.{Row}
 use Rattle.rule.specs.declared.Ending.{Ending}
 use Rattle.rule.specs.declared.Ending.the-variants.{ByTrack, Meeting, ByWall, Edge}
 use Rattle.rule.specs.Motion.{X, Y, Same, OnWall, LastInside}
-use Rattle.rule.specs.Rows.{time, Floor64}
+use Rattle.rule.specs.Rows.{time, Rounded}
 use Rattle.promises.specs.Runs.{Run, rowCount, Room, Reads, InRoll}
 
 -- the time in tip b's own row is as P says
@@ -40,8 +40,8 @@ pub record EndPoint (l : List Command) (r : Row) : Type 0 where
   pub on-sheet : tip ∈ tracksOf l
   pub own : r .id ≡ tip .id
   pub lands : Lands l tip (time r) (r .ending)
-  pub x-rounded : Floor64 (X tip (time r)) (r .den) (r .x)
-  pub y-rounded : Floor64 (Y tip (time r)) (r .den) (r .y)
+  pub x-rounded : Rounded (X tip (time r)) (r .den) (r .x)
+  pub y-rounded : Rounded (Y tip (time r)) (r .den) (r .y)
 
 pub record Mapping (l : List Command) : Type 0 where
   -- with room for them a run writes as many rows as there are tracks
