@@ -26,8 +26,8 @@ pub extern "C" fn fissure_check(s: &[u8], second: &mut u64) -> u64
             *second = 0;
             0
         }
-        Verdict::Refused(number, at) => {
-            *second = at as u64;
+        Verdict::Refused(number, command) => {
+            *second = command as u64;
             number as u64
         }
     }
@@ -134,8 +134,10 @@ pub extern "C" fn fissure_cells(
     }
 }
 
-// The session of a sheet's bytes and of the numbers lent for it, with what is refused. The sheet is judged first. A session has one number,
-// the rows shown: fewer numbers are refused with 12.
+// The numbers of a session: one, the rows shown.
+const SESSION: usize = 1;
+
+// The session of a sheet's bytes and of the numbers lent for it, with what is refused: the sheet first, then 12 for too few numbers.
 fn take(s: &[u8], session: &[u64]) -> Begun
     ensures { λ r. ⌜ Takes (now (s .entry)) (now (session .entry)) r ⌝ }
 {
@@ -145,10 +147,10 @@ fn take(s: &[u8], session: &[u64]) -> Begun
     match answer {
         Verdict::Refused(_, _) => begun,
         Verdict::Accepted => {
-            if session.len() < 1 {
+            if session.len() < SESSION {
                 return Begun {
                     session: opened,
-                    answer: Verdict::Refused(12, 1),
+                    answer: Verdict::Refused(12, SESSION),
                 };
             }
             let sheet = opened.sheet;
@@ -159,8 +161,9 @@ fn take(s: &[u8], session: &[u64]) -> Begun
     }
 }
 
-// A session with no row shown.
-fn start(s: &[u8], session: &mut [u64], second: &mut u64) -> u64
+// Opens a session over a sheet: no row shown.
+#[no_mangle]
+pub extern "C" fn fissure_open(s: &[u8], session: &mut [u64], second: &mut u64) -> u64
     ensures { λ r. ⌜ (r, now (second .exit), now (session .exit)) ≡ startCall (now (s .entry)) (now (session .entry)) ⌝ }
 {
     let taken = take(s, session);
@@ -176,14 +179,6 @@ fn start(s: &[u8], session: &mut [u64], second: &mut u64) -> u64
             0
         }
     }
-}
-
-// Opens a session over a sheet: no row shown.
-#[no_mangle]
-pub extern "C" fn fissure_open(s: &[u8], session: &mut [u64], second: &mut u64) -> u64
-    ensures { λ r. ⌜ (r, now (second .exit), now (session .exit)) ≡ startCall (now (s .entry)) (now (session .entry)) ⌝ }
-{
-    start(s, session, second)
 }
 
 // Writes the next n rows of a session, or those left if fewer; gives their number.
@@ -224,12 +219,12 @@ pub extern "C" fn fissure_advance(
     }
 }
 
-// Puts a session's number of rows shown to 0.
+// Puts a session's number of rows shown to 0: the session is opened again.
 #[no_mangle]
 pub extern "C" fn fissure_reset(s: &[u8], session: &mut [u64], second: &mut u64) -> u64
     ensures { λ r. ⌜ (r, now (second .exit), now (session .exit)) ≡ startCall (now (s .entry)) (now (session .entry)) ⌝ }
 {
-    start(s, session, second)
+    fissure_open(s, session, second)
 }
 
 // Gives the number of tracks still running: the rows that a session has not shown.
@@ -248,12 +243,12 @@ pub extern "C" fn fissure_running(s: &[u8], session: &[u64], second: &mut u64) -
             let held = taken.session;
             let running = held.running();
             match running {
-                Rolled::Rows(n) => {
-                    *second = n as u64;
+                Rolled::Rows(left) => {
+                    *second = left as u64;
                     0
                 }
-                Rolled::Refused(number, place) => {
-                    *second = place as u64;
+                Rolled::Refused(number, at) => {
+                    *second = at as u64;
                     number as u64
                 }
             }

@@ -4,8 +4,8 @@ use native.Mathlib.Omega.{arith}
 use mathlib.Core.Path.{sym, ap, _∙_}
 use Rattle.sheet.specs.Returned.{verdict}
 use Rattle.fissures_c.proofs.Stepped.{fits, not-started, started}
-use Rattle.fissures_c.proofs.start.Statement.{statement}
-use Rattle.fissures_c.proofs.start.Tie as tie
+use Rattle.fissures_c.proofs.fissure_open.Statement.{statement}
+use Rattle.fissures_c.proofs.fissure_open.Tie as tie
 
 take-requires : tie.Need-take-requires
 take-requires c κs = search needs
@@ -41,8 +41,8 @@ returns-2 c =
     let z = c .before .before .before .before .before .before .args in
     started (z .s .now) (z .session .now) (sym (c .before .before .take .ensures .answer) ∙ ap verdict (c .enum-told .given .1))
 
-pub start-spec : {M : Type 1} → statement M
-start-spec =
+pub fissure-open-spec : {M : Type 1} → statement M
+fissure-open-spec =
     tie.close
     (tie.spec
     take-requires
