@@ -1,11 +1,18 @@
-/* Fissure sheets and rolls: the proved static library (target/staticlib/libexports.a, built by `rt staticlib exports`) for C.
+/* Fissure sheets and rolls: the proved static library (target/staticlib/libfissures_c.a, built by `rt staticlib fissures_c`) for C.
  *
- * A byte slice is passed as a pointer and a length in bytes. No pointer may be null, not even where the length is 0. What a call may
- * write (`out`, `second`, `cells`, `after`) may overlap neither the sheet nor one another. No function keeps a pointer.
+ * A slice of bytes or numbers is passed as a pointer and a length, in bytes or in numbers. No pointer may be null, not even where the
+ * length is 0. What a call may write (`session`, `out`, `second`, `cells`, `list`, `start`, `size`) may overlap neither what it reads nor
+ * one another. No function keeps a pointer.
  *
- * Each function returns 0 when the call is accepted, else the number of the refusal (FISSURE_... below), and stores the other number of
- * its answer in `second`: for refusals 1 to 11 the place of the command in the sheet's bytes, for 12 the length needed, for 13 the
- * figure, for 14 zero. A refused call changes no byte of `out`; an accepted one changes no byte past those it writes.
+ * Each function but fissure_name returns 0 when the call is accepted, else the number of the refusal (FISSURE_... below), and stores the
+ * other number of its answer in `second` (docs/SHEETS.md, 3.1 and 11). With a refusal that is:
+ *   for 1 and 4 to 11 the place of the command in the sheet's bytes, counted from 0;
+ *   for 2 the place of the command that is cut short, or the length of the input where it ends with no command there;
+ *   for 3 the first place after the end (the byte 00);
+ *   for 12 the length needed of the slice that is too short, in bytes of `out` or in numbers of `session`;
+ *   for 13 the figure; for 14 zero.
+ * A refused call writes `second` and nothing else: `out`, `session` and `cells` stay as they came. An accepted call writes no byte past
+ * those it gives.
  */
 #ifndef FISSURES_H
 #define FISSURES_H
@@ -53,7 +60,7 @@ uint64_t fissure_order(const uint8_t *sheet, size_t length, uint8_t *out, size_t
 uint64_t fissure_plain(const uint8_t *sheet, size_t length, uint8_t *out, size_t room, uint64_t *second);
 
 /* Writes the sheet's roll, by the grid run of a figure of 1, 2, 4, 8, 16 or 32; second: the number of rows; cells: the number of cells
- * entered, 0 on a refusal. */
+ * entered. */
 uint64_t fissure_grid(const uint8_t *sheet, size_t length, uint64_t figure, uint8_t *out, size_t room, uint64_t *second,
                       uint64_t *cells);
 
@@ -61,11 +68,32 @@ uint64_t fissure_grid(const uint8_t *sheet, size_t length, uint64_t figure, uint
 uint64_t fissure_cells(const uint8_t *sheet, size_t length, uint64_t figure, uint64_t column, uint64_t row, uint8_t *out, size_t room,
                        uint64_t *second);
 
-/* A session over the sheet of whose roll `shown` rows have been shown (all of them, if that is more than it has) advances by n (SHEETS
- * 7.2); second: the number of rows written; after: how many have then been shown, `shown` as it came
- * on a refusal. */
-uint64_t fissure_advance(const uint8_t *sheet, size_t length, uint64_t shown, uint64_t n, uint8_t *out, size_t room, uint64_t *second,
-                         uint64_t *after);
+/* A session over a sheet is a slice of numbers that the caller keeps: the first FISSURE_SESSION of them are the session, today the number
+ * of rows shown; numbers behind them stay as they are. More rows shown than the roll has count as all of them. A slice with fewer numbers
+ * is refused 12, with FISSURE_SESSION in `second`, after the sheet's own refusals and before those of `out`. */
+#define FISSURE_SESSION 1
+
+/* Opens a session: no row shown; second: 0. */
+uint64_t fissure_open(const uint8_t *sheet, size_t length, uint64_t *session, size_t numbers, uint64_t *second);
+
+/* Writes the next n rows, or those left if fewer, and moves the session past them; second: the number of rows written. */
+uint64_t fissure_advance(const uint8_t *sheet, size_t length, uint64_t *session, size_t numbers, uint64_t n, uint8_t *out, size_t room,
+                         uint64_t *second);
+
+/* Puts the session back: no row shown; second: 0. */
+uint64_t fissure_reset(const uint8_t *sheet, size_t length, uint64_t *session, size_t numbers, uint64_t *second);
+
+/* second: the number of tracks still running, that is of rows not yet shown. The session stays as it came. */
+uint64_t fissure_running(const uint8_t *sheet, size_t length, const uint64_t *session, size_t numbers, uint64_t *second);
+
+/* The name of a row's partner, in name lists whose entries are an id of 2 bytes, a length of 1 and that many bytes. Kinds 1 and 2 are
+ * looked up among the tracks, 3 among the walls. The name is the part of `list` (FISSURE_TRACKS or FISSURE_WALLS) that starts at `start`
+ * and has `size` bytes. With any other kind, with a partner above 65535 or where no whole entry has the id, it is the empty part at the
+ * start of the track list. Nothing is refused. */
+void fissure_name(const uint8_t *tracks, size_t tracks_length, const uint8_t *walls, size_t walls_length, uint64_t kind, uint64_t partner,
+                  uint64_t *list, uint64_t *start, uint64_t *size);
+
+enum fissure_list { FISSURE_TRACKS = 1, FISSURE_WALLS = 2 };
 
 #ifdef __cplusplus
 }

@@ -1,7 +1,7 @@
 //! Each function of the proved library against the reference implementation, on sheets valid and damaged, long and short, with buffers
 //! that are too short by one byte, exact, and longer than needed.
 
-use fissures::{Cell, GridRoll, Session, ROW};
+use fissures::{numbers, Cell, GridRoll, Place, Session, ROW};
 use reference::cells::{self, FIGURES};
 use reference::made_up;
 use reference::refusal::{Refusal, OUTPUT_TOO_SHORT};
@@ -128,27 +128,66 @@ fn cell_listing() {
     }
 }
 
-/// The value is the number of rows written and how many have then been shown.
-fn by_steps(sheet: &[u8], shown: u64, n: u64) -> Expected<(usize, u64)> {
+/// What a call on a session gives: the number stored in `second`, the rows shown then, and the rows written.
+struct Step {
+    second: usize,
+    shown: u64,
+    bytes: Vec<u8>,
+}
+
+/// Advance by n.
+fn advance(sheet: &[u8], shown: u64, n: u64) -> Result<Step, Refusal> {
     let rows = roll(&read(sheet)?);
     let from = rows.len().min(usize::try_from(shown).unwrap());
     let count = (rows.len() - from).min(usize::try_from(n).unwrap());
-    Ok(((count, (from + count) as u64), roll_bytes(&rows[from..from + count])))
+    Ok(Step { second: count, shown: (from + count) as u64, bytes: roll_bytes(&rows[from..from + count]) })
+}
+
+/// Open and reset.
+fn start(sheet: &[u8]) -> Result<Step, Refusal> {
+    read(sheet).map(|_| Step { second: 0, shown: 0, bytes: vec![] })
+}
+
+/// The number still running.
+fn running(sheet: &[u8], shown: u64) -> Result<Step, Refusal> {
+    let rows = roll(&read(sheet)?);
+    let left = rows.len().saturating_sub(usize::try_from(shown).unwrap());
+    Ok(Step { second: left, shown, bytes: vec![] })
+}
+
+/// Makes a call on slices of no number, one and three, and looks at all their numbers, at the answer and at all bytes of the buffers.
+fn compare_steps(
+    expected: &Result<Step, Refusal>,
+    shown: u64,
+    call: impl Fn(&mut [u64], &mut [u8]) -> Result<usize, fissures::Refusal>,
+) {
+    for before in [&[][..], &[shown], &[shown, 77, u64::MAX]] {
+        let then = |step: &Step| [&[step.shown], &before[1..]].concat();
+        let expected = match expected {
+            Err(refusal) => Err(*refusal),
+            Ok(_) if before.is_empty() => Err(Refusal { number: OUTPUT_TOO_SHORT, place: numbers::SIZE }),
+            Ok(step) => Ok(((step.second, then(step)), step.bytes.clone())),
+        };
+        compare(&expected, |out| {
+            let mut session = before.to_vec();
+            let answer = call(&mut session, out);
+            assert!(answer.is_ok() || session == before, "a refusal leaves the session as it came");
+            answer.map(|second| (second, session))
+        });
+    }
 }
 
 #[test]
-fn advance() {
+fn sessions() {
     let mut rng = Rng::new(6);
     for sheet in sheets(6) {
         for _ in 0..3 {
             let number = |rng: &mut Rng| rng.pick(&[0, 1, 2, 3, 5, 8, 20, 200, 256, 257, u64::MAX]);
             let (shown, n) = (number(&mut rng), number(&mut rng));
-            compare(&by_steps(&sheet, shown, n), |out| {
-                let mut session = Session { sheet: &sheet, shown };
-                let answer = session.advance(n, out);
-                assert!(answer.is_ok() || session.shown == shown);
-                answer.map(|count| (count, session.shown))
-            });
+            compare_steps(&advance(&sheet, shown, n), shown, |session, out| numbers::advance(&sheet, session, n, out));
+            compare_steps(&start(&sheet), shown, |session, _| numbers::open(&sheet, session));
+            compare_steps(&start(&sheet), shown, |session, _| numbers::reset(&sheet, session));
+            compare_steps(&running(&sheet, shown), shown, |session, _| numbers::running(&sheet, session));
         }
     }
 }
@@ -158,14 +197,75 @@ fn step_by_step() {
     let mut rng = Rng::new(7);
     for sheet in sheets(7) {
         let Ok(mut session) = Session::open(&sheet) else { continue };
-        let (mut shown, mut out) = (Vec::<u8>::new(), vec![0; 256 * ROW]);
-        loop {
-            let count = session.advance(1 + rng.below(9) as u64, &mut out).expect("room for any roll");
-            shown.extend(&out[..count * ROW]);
-            if count == 0 {
-                break;
+        let rows = roll(&read(&sheet).expect("accepted"));
+        for _ in 0..2 {
+            let (mut shown, mut out) = (Vec::<u8>::new(), vec![0; 256 * ROW]);
+            loop {
+                assert_eq!(session.running(), Ok(rows.len() - shown.len() / ROW));
+                let count = session.advance(1 + rng.below(9) as u64, &mut out).expect("room for any roll");
+                shown.extend(&out[..count * ROW]);
+                if count == 0 {
+                    break;
+                }
             }
+            assert_eq!(shown, roll_bytes(&rows));
+            assert_eq!(session.reset(), Ok(()));
         }
-        assert_eq!(shown, roll_bytes(&roll(&read(&sheet).expect("accepted"))));
+    }
+}
+
+/// The place and length of an id's name: of the first whole entry with it, before any that is cut short.
+fn find(list: &[u8], id: u16) -> Option<(usize, usize)> {
+    let mut at = 0;
+    loop {
+        let head = list.get(at..at + 3)?;
+        let (start, size) = (at + 3, usize::from(head[2]));
+        list.get(start..start + size)?;
+        if head[..2] == id.to_le_bytes() {
+            return Some((start, size));
+        }
+        at = start + size;
+    }
+}
+
+fn place(tracks: &[u8], walls: &[u8], kind: u64, partner: u64) -> Place {
+    let (number, list) = if kind == 3 { (2, walls) } else { (1, tracks) };
+    let found = u16::try_from(partner).ok().filter(|_| (1..=3).contains(&kind)).and_then(|id| find(list, id));
+    match found {
+        Some((start, size)) => Place { list: number, start, size },
+        None => Place { list: 1, start: 0, size: 0 },
+    }
+}
+
+/// Entries of a few ids, often twice, with names of any length; now and then cut short.
+fn name_list(rng: &mut Rng) -> Vec<u8> {
+    let mut list = Vec::new();
+    for _ in 0..rng.below(6) {
+        let id = rng.pick(&[0, 1, 2, 3, 256, 257, 65535_u16]);
+        let size = rng.pick(&[0, 1, 2, 5, 255]);
+        list.extend(id.to_le_bytes());
+        list.push(size);
+        list.extend((0..size).map(|_| rng.below(4) as u8));
+    }
+    if rng.one_in(3) {
+        list.truncate(rng.below(list.len() + 1));
+    }
+    list
+}
+
+#[test]
+fn names() {
+    let mut rng = Rng::new(8);
+    for _ in 0..3000 {
+        let (tracks, walls) = (name_list(&mut rng), name_list(&mut rng));
+        for kind in [0, 1, 2, 3, 4, 5, 257, 1 << 32, u64::MAX] {
+            let partner = rng.pick(&[0, 1, 2, 3, 256, 257, 65535, 65536, 65537, 1 << 32, u64::MAX]);
+            let expected = place(&tracks, &walls, kind, partner);
+            assert_eq!(fissures::name_place(&tracks, &walls, kind, partner), expected);
+            let list = if expected.list == 1 { &tracks } else { &walls };
+            let part = &list[expected.start..expected.start + expected.size];
+            let name = fissures::name(&tracks, &walls, kind, partner);
+            assert_eq!((name, name.as_ptr()), (part, part.as_ptr()));
+        }
     }
 }

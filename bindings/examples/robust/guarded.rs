@@ -28,6 +28,7 @@ pub enum Side {
 pub const SIDES: [Side; 2] = [Side::AfterAPage, Side::BeforeAPage];
 
 /// Kept until the program ends.
+#[derive(Clone, Copy)]
 pub struct Guarded {
     inside: *mut u8,
 }
@@ -41,13 +42,28 @@ impl Guarded {
         Guarded { inside }
     }
 
-    pub fn lend(&mut self, length: usize, side: Side) -> &mut [u8] {
+    /// Where a part of so many bytes starts.
+    fn first(&mut self, length: usize, side: Side) -> *mut u8 {
         assert!(length <= INSIDE);
-        let first = match side {
-            Side::AfterAPage => 0,
-            Side::BeforeAPage => INSIDE - length,
-        };
-        unsafe { from_raw_parts_mut(self.inside.add(first), length) }
+        match side {
+            Side::AfterAPage => self.inside,
+            Side::BeforeAPage => self.inside.wrapping_add(INSIDE - length),
+        }
+    }
+
+    pub fn lend(&mut self, length: usize, side: Side) -> &mut [u8] {
+        unsafe { from_raw_parts_mut(self.first(length, side), length) }
+    }
+
+    /// A page begins at a multiple of 8, so that numbers lie where they may.
+    pub fn lend_numbers(&mut self, count: usize, side: Side) -> &mut [u64] {
+        unsafe { from_raw_parts_mut(self.first(8 * count, side).cast(), count) }
+    }
+
+    pub fn lend_copy(&mut self, bytes: &[u8], side: Side) -> &[u8] {
+        let lent = self.lend(bytes.len(), side);
+        lent.copy_from_slice(bytes);
+        lent
     }
 }
 

@@ -36,17 +36,33 @@ impl Tally {
     }
 }
 
+/// What is lent.
+struct Memory {
+    input: Guarded,
+    out: Guarded,
+    numbers: Guarded,
+    lists: [Guarded; 2],
+}
+
+impl Memory {
+    fn new() -> Self {
+        let lists = [Guarded::new(), Guarded::new()];
+        Memory { input: Guarded::new(), out: Guarded::new(), numbers: Guarded::new(), lists }
+    }
+}
+
 /// Makes all calls on one input and gives what differed.
-fn compare(rng: &mut Rng, input: &[u8], [lent, out]: &mut [Guarded; 2], tally: &mut Tally) -> Vec<String> {
+fn compare(rng: &mut Rng, input: &[u8], memory: &mut Memory, tally: &mut Tally) -> Vec<String> {
     let sheet = work_out(input);
     if let Ok(sheet) = &sheet {
         tally.accepted += 1;
         sheet.rows.iter().for_each(|row| tally.kinds[usize::from(row.ending.kind())] += 1);
     }
-    let lent = lent.lend(input.len(), rng.pick(&SIDES));
-    lent.copy_from_slice(input);
+    let Memory { input: lent, out, numbers, lists } = memory;
+    let lent = lent.lend_copy(input, rng.pick(&SIDES));
     let expected = sheet.as_ref().map_err(|refusal| *refusal);
-    let mut trial = Trial { rng, input: lent, expected, out, answers: &mut tally.answers, differences: Vec::new() };
+    let mut trial =
+        Trial { rng, input: lent, expected, out, numbers, lists, answers: &mut tally.answers, differences: Vec::new() };
     trial.run();
     let mut differences = trial.differences;
     if lent != input {
@@ -57,7 +73,7 @@ fn compare(rng: &mut Rng, input: &[u8], [lent, out]: &mut [Guarded; 2], tally: &
 
 fn run(seed: u64, numbers: impl Iterator<Item = u64>) -> Tally {
     let first = Rng::new(seed).draw();
-    let mut memory = [Guarded::new(), Guarded::new()];
+    let mut memory = Memory::new();
     let mut tally = Tally::default();
     for number in numbers {
         let mut rng = Rng::new(first.wrapping_add(number));

@@ -1,7 +1,7 @@
 //! One input: what the reference implementation expects of each function, worked out once, and the calls that are compared with it.
 
 use crate::guarded::{Guarded, SIDES};
-use fissures::{Cell, GridRoll, Session, ROW};
+use fissures::{numbers, Cell, GridRoll, Place, ROW};
 use reference::cells::{self, FIGURES};
 use reference::refusal::{Refusal, GRID_FIGURE, OUTPUT_TOO_SHORT, OUTSIDE_GRID};
 use reference::rng::Rng;
@@ -53,6 +53,9 @@ pub struct Trial<'a> {
     pub input: &'a [u8],
     pub expected: Result<&'a Sheet, Refusal>,
     pub out: &'a mut Guarded,
+    /// For sessions, and for the two name lists.
+    pub numbers: &'a mut Guarded,
+    pub lists: &'a mut [Guarded; 2],
     /// How many calls gave 0, and each refusal's number.
     pub answers: &'a mut [u64; 15],
     pub differences: Vec<String>,
@@ -65,7 +68,8 @@ impl<'a> Trial<'a> {
         self.plain();
         self.grid();
         self.cells();
-        self.advance();
+        self.session();
+        self.name();
     }
 
     /// Makes a call with a buffer that is exact, too short by one byte or longer. Compares the answer and all bytes of the buffer with
@@ -177,23 +181,103 @@ impl<'a> Trial<'a> {
         });
     }
 
-    /// A session over the input takes three steps.
-    fn advance(&mut self) {
-        let shown = if self.rng.one_in(4) { self.rng.pick(&[1, 2, 7, 256, 257, u64::MAX]) } else { 0 };
-        let mut session = Session { sheet: self.input, shown };
-        for _ in 0..3 {
-            let (shown, n) = (session.shown, self.rng.pick(&[0, 1, 1, 2, 2, 3, 5, 8, 256, u64::MAX]));
-            let expected = self.expected.map(|sheet| {
-                let from = shown.min(sheet.rows.len() as u64) as usize;
-                let count = n.min((sheet.rows.len() - from) as u64) as usize;
-                ((count, (from + count) as u64), &sheet.roll[from * ROW..(from + count) * ROW])
-            });
-            self.call(&format!("advance {n} after {shown}"), expected, |out| {
-                let answer = session.advance(n, out);
-                assert!(answer.is_ok() || session.shown == shown, "a refusal leaves the session as it is");
-                answer.map(|count| (count, session.shown))
-            });
+    /// The lent numbers of a session: none, one or more, with any number of rows shown.
+    fn lent_session(&mut self) -> Vec<u64> {
+        let shown =
+            if self.rng.one_in(2) { self.rng.pick(&[1, 2, 7, 256, 257, u64::MAX]) } else { self.rng.below(6) as u64 };
+        let count = self.rng.pick(&[0, 1, 1, 1, 2, 5]);
+        (0..count).map(|at| if at == 0 { shown } else { self.rng.draw() }).collect()
+    }
+
+    /// A call on a session in guarded memory. What is expected of the sheet's rows and of the rows shown: the number given, the rows shown
+    /// then and the rows written, from one row to another.
+    fn step(
+        &mut self,
+        name: &str,
+        wanted: impl Fn(usize, u64) -> (usize, u64, usize, usize),
+        make: impl FnOnce(&[u8], &mut [u64], &mut [u8]) -> Result<usize, fissures::Refusal>,
+    ) {
+        let (input, before, side) = (self.input, self.lent_session(), self.rng.pick(&SIDES));
+        let mut after = before.clone();
+        let expected = self.expected.and_then(|sheet| {
+            let first = after.first_mut().ok_or(Refusal { number: OUTPUT_TOO_SHORT, place: numbers::SIZE })?;
+            let (second, shown, from, to) = wanted(sheet.rows.len(), *first);
+            *first = shown;
+            Ok(((second, after.clone()), &sheet.roll[from * ROW..to * ROW]))
+        });
+        let mut memory = *self.numbers;
+        let session = memory.lend_numbers(before.len(), side);
+        session.copy_from_slice(&before);
+        let mut moved = false;
+        self.call(&format!("{name} of {before:?}"), expected, |out| {
+            let answer = make(input, session, out);
+            moved = answer.is_err() && *session != before[..];
+            answer.map(|second| (second, session.to_vec()))
+        });
+        if moved {
+            self.differences.push(format!("{name} of {before:?}: a refusal moved the session"));
         }
+    }
+
+    fn session(&mut self) {
+        let n = self.rng.pick(&[0, 1, 1, 2, 2, 3, 5, 8, 256, u64::MAX]);
+        let advance = |rows: usize, shown: u64| {
+            let from = shown.min(rows as u64) as usize;
+            let to = from + n.min((rows - from) as u64) as usize;
+            (to - from, to as u64, from, to)
+        };
+        self.step("open", |_, _| (0, 0, 0, 0), |input, session, _| numbers::open(input, session));
+        self.step(&format!("advance {n}"), advance, |input, session, out| numbers::advance(input, session, n, out));
+        self.step("reset", |_, _| (0, 0, 0, 0), |input, session, _| numbers::reset(input, session));
+        let left = |rows: usize, shown: u64| ((rows as u64).saturating_sub(shown) as usize, shown, 0, 0);
+        self.step("running", left, |input, session, _| numbers::running(input, session));
+    }
+
+    /// A list of names, often with an id twice, now and then cut short.
+    fn name_list(&mut self) -> Vec<u8> {
+        let mut list = Vec::new();
+        for _ in 0..self.rng.below(5) {
+            let size = self.rng.pick(&[0, 1, 3, 255]);
+            list.extend(self.rng.pick(&[0, 1, 2, 300, 65535_u16]).to_le_bytes());
+            list.push(size);
+            list.extend((0..size).map(|_| self.rng.below(3) as u8));
+        }
+        if self.rng.one_in(3) {
+            list.truncate(self.rng.below(list.len() + 1));
+        }
+        list
+    }
+
+    fn name(&mut self) {
+        let (tracks, walls) = (self.name_list(), self.name_list());
+        let kind = self.rng.pick(&[0, 1, 1, 2, 2, 3, 3, 4, 5, 256, 257, u64::MAX]);
+        let partner = self.rng.pick(&[0, 1, 2, 300, 65535, 65536, 1 << 32, u64::MAX]);
+        let (number, list) = if kind == 3 { (2, &walls) } else { (1, &tracks) };
+        let id = u16::try_from(partner).ok().filter(|_| (1..=3).contains(&kind));
+        let place = id.and_then(|id| find(list, id));
+        let (start, size) = place.unwrap_or((0, 0));
+        let expected = Place { list: if place.is_some() { number } else { 1 }, start, size };
+        let [one, two] = &mut *self.lists;
+        let (one, two) = (one.lend_copy(&tracks, self.rng.pick(&SIDES)), two.lend_copy(&walls, self.rng.pick(&SIDES)));
+        let found = fissures::name_place(one, two, kind, partner);
+        if found != expected {
+            let call = format!("name {kind} {partner} in {tracks:02x?} {walls:02x?}: {found:?}");
+            self.differences.push(format!("{call}\n  expected: {expected:?}"));
+        }
+    }
+}
+
+/// The place and length of an id's name: of the first whole entry with it, before any that is cut short.
+fn find(list: &[u8], id: u16) -> Option<(usize, usize)> {
+    let mut at = 0;
+    loop {
+        let head = list.get(at..at + 3)?;
+        let (start, size) = (at + 3, usize::from(head[2]));
+        list.get(start..start + size)?;
+        if head[..2] == id.to_le_bytes() {
+            return Some((start, size));
+        }
+        at = start + size;
     }
 }
 

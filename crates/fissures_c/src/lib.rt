@@ -1,14 +1,16 @@
-// The library for other languages (SHEETS 11): numbers and byte slices only. Each function answers 0, or the table's number of the refusal, and
-// stores the other number that it returns: the place or length of a refusal, or what an accepted call gives.
+// The library for other languages: numbers and slices of them only. Each function but `fissure_name` answers 0, or the table's number of
+// the refusal, and stores the other number of its answer: the place or length of a refusal, or what an accepted call gives.
 ghost use mathlib.Core.Path.{_≡_};
-ghost use lib.ListN.{length};
-ghost use Rattle.sheet.specs.Listing.{listing};
-ghost use Rattle.sheet.specs.Scan.{verdictOf, commandsOf};
-ghost use Rattle.exports.specs.Answers.{number, other, orderReturns, orderAfter, plainReturns, plainAfter};
-ghost use Rattle.exports.specs.Answers.{gridAnswer, gridAfter, CellsEntered, CellsListed, advanceAnswer, advanceAfter, shownAfter};
+ghost use Rattle.sheet.specs.Scan.{verdictOf};
+ghost use Rattle.fissures_c.specs.Answers.{told};
+ghost use Rattle.fissures_c.specs.Calls.{orderCall, plainCall, gridCall, CellsListed};
+ghost use Rattle.fissures_c.specs.Steps.{Takes, startCall, advanceCall, runningCall, endingOf, nameCall};
 use grid_run::GridRolled;
 use listing::Listed;
+use names::place::Place;
 use plain_run::Rolled;
+use rule::Ending;
+use session::Begun;
 use session::Session;
 use sheet::Verdict;
 use writer::Written;
@@ -16,7 +18,7 @@ use writer::Written;
 // The verdict on a sheet's bytes.
 #[no_mangle]
 pub extern "C" fn fissure_check(s: &[u8], second: &mut u64) -> u64
-    ensures { λ r. ⌜ (r ≡ number (verdictOf (now (s .entry)))) × (now (second .exit) ≡ other (verdictOf (now (s .entry)))) ⌝ }
+    ensures { λ r. ⌜ (r, now (second .exit)) ≡ told (verdictOf (now (s .entry))) ⌝ }
 {
     let verdict = reader::scan(s);
     match verdict {
@@ -24,8 +26,8 @@ pub extern "C" fn fissure_check(s: &[u8], second: &mut u64) -> u64
             *second = 0;
             0
         }
-        Verdict::Refused(number, at) => {
-            *second = at as u64;
+        Verdict::Refused(number, command) => {
+            *second = command as u64;
             number as u64
         }
     }
@@ -34,7 +36,7 @@ pub extern "C" fn fissure_check(s: &[u8], second: &mut u64) -> u64
 // Reads a sheet and writes its ordered form.
 #[no_mangle]
 pub extern "C" fn fissure_order(s: &[u8], out: &mut [u8], second: &mut u64) -> u64
-    ensures { λ r. ⌜ (r ≡ number (orderReturns (now (s .entry)) (length (now (out .entry))))) × (now (second .exit) ≡ other (orderReturns (now (s .entry)) (length (now (out .entry))))) × (now (out .exit) ≡ orderAfter (now (s .entry)) (now (out .entry))) ⌝ }
+    ensures { λ r. ⌜ (r, now (second .exit), now (out .exit)) ≡ orderCall (now (s .entry)) (now (out .entry)) ⌝ }
 {
     let reading = reader::read(s);
     let verdict = reading.verdict;
@@ -63,7 +65,7 @@ pub extern "C" fn fissure_order(s: &[u8], out: &mut [u8], second: &mut u64) -> u
 // Reads a sheet and writes its roll, by the plain run; gives the number of rows.
 #[no_mangle]
 pub extern "C" fn fissure_plain(s: &[u8], out: &mut [u8], second: &mut u64) -> u64
-    ensures { λ r. ⌜ (r ≡ number (plainReturns (now (s .entry)) (length (now (out .entry))))) × (now (second .exit) ≡ other (plainReturns (now (s .entry)) (length (now (out .entry))))) × (now (out .exit) ≡ plainAfter (now (s .entry)) (now (out .entry))) ⌝ }
+    ensures { λ r. ⌜ (r, now (second .exit), now (out .exit)) ≡ plainCall (now (s .entry)) (now (out .entry)) ⌝ }
 {
     let rolled = plain_run::plain_roll_bytes(s, out);
     match rolled {
@@ -78,7 +80,8 @@ pub extern "C" fn fissure_plain(s: &[u8], out: &mut [u8], second: &mut u64) -> u
     }
 }
 
-// Reads a sheet and writes its roll, by the grid run of figure g; gives the number of rows, and the number of cells entered in `cells`, 0 on a refusal.
+// Reads a sheet and writes its roll, by the grid run of figure g; gives the number of rows, and in `cells`
+// the number of cells entered; a refusal leaves `cells` as it came.
 #[no_mangle]
 pub extern "C" fn fissure_grid(
     s: &[u8],
@@ -87,7 +90,7 @@ pub extern "C" fn fissure_grid(
     second: &mut u64,
     cells: &mut u64,
 ) -> u64
-    ensures { λ r. ⌜ (r ≡ number (gridAnswer (now (s .entry)) g (length (now (out .entry))))) × (now (second .exit) ≡ other (gridAnswer (now (s .entry)) g (length (now (out .entry))))) × CellsEntered (listing (commandsOf (now (s .entry)))) g (now (cells .exit)) (gridAnswer (now (s .entry)) g (length (now (out .entry)))) × (now (out .exit) ≡ gridAfter (now (s .entry)) g (now (out .entry))) ⌝ }
+    ensures { λ r. ⌜ (r, now (second .exit), now (cells .exit), now (out .exit)) ≡ gridCall (now (s .entry)) g (now (out .entry)) (now (cells .entry)) ⌝ }
 {
     let rolled = grid_run::grid_roll_bytes(s, g, out);
     match rolled {
@@ -101,7 +104,6 @@ pub extern "C" fn fissure_grid(
         }
         GridRolled::Refused(number, place) => {
             *second = place as u64;
-            *cells = 0;
             number as u64
         }
     }
@@ -117,7 +119,7 @@ pub extern "C" fn fissure_cells(
     out: &mut [u8],
     second: &mut u64,
 ) -> u64
-    ensures { λ r. ⌜ CellsListed (now (s .entry)) g column row (now (out .entry)) (now (out .exit)) r (now (second .exit)) ⌝ }
+    ensures { λ r. ⌜ CellsListed (now (s .entry)) g column row (now (out .entry)) (r, now (second .exit), now (out .exit)) ⌝ }
 {
     let listed = listing::cell_tracks_bytes(s, g, column, row, out);
     match listed {
@@ -132,40 +134,79 @@ pub extern "C" fn fissure_cells(
     }
 }
 
-// Reads a sheet of which `shown` rows have been shown and writes the rows of an advance by n (SHEETS 7.2); gives their number, and in
-// `after` how many rows have then been shown: `shown` as it came on a refusal.
-#[no_mangle]
-pub extern "C" fn fissure_advance(
-    s: &[u8],
-    shown: u64,
-    n: u64,
-    out: &mut [u8],
-    second: &mut u64,
-    after: &mut u64,
-) -> u64
-    ensures { λ r. ⌜ (r ≡ number (advanceAnswer (now (s .entry)) shown n (length (now (out .entry))))) × (now (second .exit) ≡ other (advanceAnswer (now (s .entry)) shown n (length (now (out .entry))))) × (now (after .exit) ≡ shownAfter (now (s .entry)) shown (advanceAnswer (now (s .entry)) shown n (length (now (out .entry))))) × (now (out .exit) ≡ advanceAfter (now (s .entry)) shown n (now (out .entry))) ⌝ }
+// The numbers of a session: one, the rows shown.
+const SESSION: usize = 1;
+
+// The session of a sheet's bytes and of the numbers lent for it, with what is refused: the sheet first, then 12 for too few numbers.
+fn take(s: &[u8], session: &[u64]) -> Begun
+    ensures { λ r. ⌜ Takes (now (s .entry)) (now (session .entry)) r ⌝ }
 {
     let begun = Session::open(s);
-    let verdict = begun.answer;
+    let opened = begun.session;
+    let answer = begun.answer;
+    match answer {
+        Verdict::Refused(_, _) => begun,
+        Verdict::Accepted => {
+            if session.len() < SESSION {
+                return Begun {
+                    session: opened,
+                    answer: Verdict::Refused(12, SESSION),
+                };
+            }
+            let sheet = opened.sheet;
+            let shown = session[0] as usize;
+            let session = Session { sheet, shown };
+            Begun { session, answer }
+        }
+    }
+}
+
+// Opens a session over a sheet: no row shown.
+#[no_mangle]
+pub extern "C" fn fissure_open(s: &[u8], session: &mut [u64], second: &mut u64) -> u64
+    ensures { λ r. ⌜ (r, now (second .exit), now (session .exit)) ≡ startCall (now (s .entry)) (now (session .entry)) ⌝ }
+{
+    let taken = take(s, session);
+    let verdict = taken.answer;
     match verdict {
         Verdict::Refused(number, place) => {
             *second = place as u64;
-            *after = shown;
             number as u64
         }
         Verdict::Accepted => {
-            let opened = begun.session;
-            let sheet = opened.sheet;
-            let session = Session {
-                sheet,
-                shown: shown as usize,
-            };
-            let advanced = session.advance(n as usize, out);
+            session[0] = 0;
+            *second = 0;
+            0
+        }
+    }
+}
+
+// Writes the next n rows of a session, or those left if fewer; gives their number.
+#[no_mangle]
+pub extern "C" fn fissure_advance(
+    s: &[u8],
+    session: &mut [u64],
+    n: u64,
+    out: &mut [u8],
+    second: &mut u64,
+) -> u64
+    ensures { λ r. ⌜ (r, now (second .exit), now (session .exit), now (out .exit)) ≡ advanceCall (now (s .entry)) (now (session .entry)) n (now (out .entry)) ⌝ }
+{
+    let taken = take(s, session);
+    let verdict = taken.answer;
+    match verdict {
+        Verdict::Refused(number, place) => {
+            *second = place as u64;
+            number as u64
+        }
+        Verdict::Accepted => {
+            let held = taken.session;
+            let advanced = held.advance(n as usize, out);
             let left = advanced.session;
-            *after = left.shown as u64;
             let answer = advanced.answer;
             match answer {
                 Rolled::Rows(k) => {
+                    session[0] = left.shown as u64;
                     *second = k as u64;
                     0
                 }
@@ -174,6 +215,82 @@ pub extern "C" fn fissure_advance(
                     number as u64
                 }
             }
+        }
+    }
+}
+
+// Puts a session's number of rows shown to 0: the session is opened again.
+#[no_mangle]
+pub extern "C" fn fissure_reset(s: &[u8], session: &mut [u64], second: &mut u64) -> u64
+    ensures { λ r. ⌜ (r, now (second .exit), now (session .exit)) ≡ startCall (now (s .entry)) (now (session .entry)) ⌝ }
+{
+    fissure_open(s, session, second)
+}
+
+// Gives the number of tracks still running: the rows that a session has not shown.
+#[no_mangle]
+pub extern "C" fn fissure_running(s: &[u8], session: &[u64], second: &mut u64) -> u64
+    ensures { λ r. ⌜ (r, now (second .exit)) ≡ runningCall (now (s .entry)) (now (session .entry)) ⌝ }
+{
+    let taken = take(s, session);
+    let verdict = taken.answer;
+    match verdict {
+        Verdict::Refused(number, place) => {
+            *second = place as u64;
+            number as u64
+        }
+        Verdict::Accepted => {
+            let held = taken.session;
+            let running = held.running();
+            match running {
+                Rolled::Rows(left) => {
+                    *second = left as u64;
+                    0
+                }
+                Rolled::Refused(number, at) => {
+                    *second = at as u64;
+                    number as u64
+                }
+            }
+        }
+    }
+}
+
+// A partner above 65535 counts as none.
+fn ending_of(kind: u64, partner: u64) -> Ending
+    ensures { λ r. ⌜ r ≡ endingOf kind partner ⌝ }
+{
+    if 65535 < partner {
+        return Ending::Edge;
+    }
+    stored::ending_from(kind, partner as u16)
+}
+
+// Where the partner's name lies: in list 1, of the tracks, or 2, of the walls. Any kind and any partner may come.
+#[no_mangle]
+pub extern "C" fn fissure_name(
+    tracks: &[u8],
+    walls: &[u8],
+    kind: u64,
+    partner: u64,
+    list: &mut u64,
+    start: &mut u64,
+    size: &mut u64,
+)
+    ensures { λ r. ⌜ (now (list .exit), now (start .exit), now (size .exit)) ≡ nameCall (now (tracks .entry)) (now (walls .entry)) kind partner ⌝ }
+{
+    let ending = ending_of(kind, partner);
+    let place = names::place::partner_place(tracks, walls, ending);
+    match place {
+        Place::OfTracks(at, length) => {
+            *list = 1;
+            *start = at as u64;
+            *size = length as u64;
+        }
+        Place::OfWalls(at, length) => {
+            *list = 2;
+            *start = at as u64;
+            *size = length as u64;
         }
     }
 }

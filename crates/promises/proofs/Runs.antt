@@ -31,6 +31,7 @@ use Rattle.grid_run.specs.Demand.{Given, in-bytes, in-records}
 use Rattle.stored.specs.declared.Stored.the-variants.{Found}
 use Rattle.stored.specs.Stored.{rowIn}
 use Rattle.stored.proofs.ReadBack.{row-back}
+use Rattle.grid_run.specs.GridRolled.{Reported}
 use Rattle.promises.specs.Runs.{Run, plain, grid, rowCount, Room, Reads, InRoll}
 use Rattle.promises.proofs.Sheets.{commands-fit, scanned}
 
@@ -69,7 +70,7 @@ module _ (l : List Command) (acc : Accepted (listing l)) where
   unfolding andThen
   ran {before} {exit} (plain r i h) = as-listed before exit _ (given-accepted i) (given-records i) (h .answer) (h .buffer)
   ran {before} {exit} (grid {g = g} r i f h) =
-      as-listed before exit _ (ap (λ (v : Returned). andThen v (figureCheck g)) (given-accepted i) ∙ figure-checked g (figure-is f)) (given-records i) (h .answer) (h .buffer)
+      as-listed before exit _ (ap (λ (v : Returned). andThen v (figureCheck g)) (given-accepted i) ∙ figure-checked g (figure-is f)) (given-records i) (ap (λ (z : Reported). z .returned) (h .answer)) (h .buffer)
 
   pub left : {before exit : List ℕ} {x : Returned} → Run l before exit x → Room l before → (x ≡ gives (rowCount l)) × (exit ≡ rollBytes (rollOf S) ++ drop (length (rollBytes (rollOf S))) before)
   left {before} c h =

@@ -1,6 +1,6 @@
 //! Reads a sheet from standard input and prints its roll, or its refusal, with the proved library:
 //! what program `roll` prints. From the repository's root:
-//!   rt staticlib exports
+//!   rt staticlib fissures_c
 //!   cargo run --release --offline --manifest-path examples/rust/Cargo.toml < examples/A.sheet
 
 use fissures::{GridRoll, Refusal, LONGEST_ROLL, ROW};

@@ -2,9 +2,9 @@
 use borrow.Author.Needs.{needs}
 use mathlib.Core.Path.{sym, ap, _∙_}
 use Rattle.listing.specs.Listed.{listed}
-use Rattle.exports.proofs.Reached.{two}
-use Rattle.exports.proofs.fissure_cells.Statement.{statement}
-use Rattle.exports.proofs.fissure_cells.Tie as tie
+use Rattle.fissures_c.proofs.Reached.{left}
+use Rattle.fissures_c.proofs.fissure_cells.Statement.{statement}
+use Rattle.fissures_c.proofs.fissure_cells.Tie as tie
 
 cell-tracks-bytes-requires : tie.Need-cell-tracks-bytes-requires
 cell-tracks-bytes-requires c κs = search needs
@@ -24,8 +24,7 @@ same-length c = search needs
 returns : tie.Need-returns
 returns c =
     let h = c .before .before .before .before .before .cell-tracks-bytes .ensures in
-    let t = two (sym (ap listed (c .before .listed .given .1)) ∙ h .answer) in
-    record { ids = h .ids; are = h .are; answer = t .0; number-of-ids = t .1; buffer = h .buffer }
+    record { ids = h .ids; are = h .are; leaves-them = left (sym (ap listed (c .before .listed .given .1)) ∙ h .answer) (h .buffer) }
 
 same-length-2 : tie.Need-same-length-2
 same-length-2 c = search needs
@@ -33,8 +32,7 @@ same-length-2 c = search needs
 returns-2 : tie.Need-returns-2
 returns-2 c =
     let h = c .before .before .before .before .before .cell-tracks-bytes .ensures in
-    let t = two (sym (ap listed (c .before .listed2 .given .1)) ∙ h .answer) in
-    record { ids = h .ids; are = h .are; answer = t .0; number-of-ids = t .1; buffer = h .buffer }
+    record { ids = h .ids; are = h .are; leaves-them = left (sym (ap listed (c .before .listed2 .given .1)) ∙ h .answer) (h .buffer) }
 
 pub fissure-cells-spec : {M : Type 1} → statement M
 fissure-cells-spec =

@@ -1,11 +1,10 @@
 -- The two numbers of the verdict.
 use borrow.Author.Needs.{needs}
-use Prim.Native.Nat.{_-_}
 use mathlib.Core.Path.{sym, ap, _∙_}
 use Rattle.sheet.specs.Returned.{verdict}
-use Rattle.exports.proofs.Reached.{two}
-use Rattle.exports.proofs.fissure_check.Statement.{statement}
-use Rattle.exports.proofs.fissure_check.Tie as tie
+use Rattle.fissures_c.proofs.Reached.{left-two}
+use Rattle.fissures_c.proofs.fissure_check.Statement.{statement}
+use Rattle.fissures_c.proofs.fissure_check.Tie as tie
 
 scan-requires : tie.Need-scan-requires
 scan-requires c κs = search needs
@@ -20,10 +19,10 @@ cast-result : tie.Need-cast-result
 cast-result c = search needs
 
 returns : tie.Need-returns
-returns c = two (sym (ap verdict (c .enum-told .given .1)) ∙ c .before .before .scan .ensures)
+returns c = left-two (sym (ap verdict (c .enum-told .given .1)) ∙ c .before .before .scan .ensures)
 
 returns-2 : tie.Need-returns-2
-returns-2 c = two (sym (ap verdict (c .before .verdict .given .1)) ∙ c .before .before .before .scan .ensures)
+returns-2 c = left-two (sym (ap verdict (c .before .verdict .given .1)) ∙ c .before .before .before .scan .ensures)
 
 pub fissure-check-spec : {M : Type 1} → statement M
 fissure-check-spec =

@@ -1,10 +1,11 @@
 -- Reading, then the grid run: its answer as two numbers, and its count.
 use borrow.Author.Needs.{needs}
-use Rattle.sheet.specs.Listing.{listing}
-use Rattle.sheet.specs.Scan.{commandsOf}
-use Rattle.exports.proofs.Reached.{entered, none-entered}
-use Rattle.exports.proofs.fissure_grid.Statement.{statement}
-use Rattle.exports.proofs.fissure_grid.Tie as tie
+use mathlib.Core.Path.{sym, ap, _∙_}
+use Rattle.grid_run.specs.declared.GridRolled.{GridRolled}
+use Rattle.grid_run.specs.GridRolled.{gridRolled}
+use Rattle.fissures_c.proofs.Reached.{left-four, counted, not-counted}
+use Rattle.fissures_c.proofs.fissure_grid.Statement.{statement}
+use Rattle.fissures_c.proofs.fissure_grid.Tie as tie
 
 grid-roll-bytes-requires : tie.Need-grid-roll-bytes-requires
 grid-roll-bytes-requires c κs = search needs
@@ -25,8 +26,9 @@ returns : tie.Need-returns
 returns c =
     let a = c .before .before .before .before .before .before .before .before .before .args in
     let h = c .before .before .before .before .before .grid-roll-bytes .ensures in
-    let t = entered (listing (commandsOf (a .s .now))) (a .g) (h .answer) (c .before .rolled .given .1) (h .cells) in
-    (t .0 .0, t .0 .1, t .1, h .buffer)
+    let p = sym (ap gridRolled (c .before .rolled .given .1)) ∙ h .answer in
+    let t = ap (λ z. z .returned) p in
+    left-four t (counted _ (a .cells .now) t (ap (λ z. z .cells) p)) (h .buffer)
 
 same-length-2 : tie.Need-same-length-2
 same-length-2 c = search needs
@@ -35,8 +37,8 @@ returns-2 : tie.Need-returns-2
 returns-2 c =
     let a = c .before .before .before .before .before .before .before .before .before .args in
     let h = c .before .before .before .before .before .grid-roll-bytes .ensures in
-    let t = none-entered (listing (commandsOf (a .s .now))) (a .g) (h .answer) (c .before .rolled2 .given .1) in
-    (t .0 .0, t .0 .1, t .1, h .buffer)
+    let t = ap (λ z. z .returned) (sym (ap gridRolled (c .before .rolled2 .given .1)) ∙ h .answer) in
+    left-four t (not-counted _ (a .cells .now) t) (h .buffer)
 
 pub fissure-grid-spec : {M : Type 1} → statement M
 fissure-grid-spec =

@@ -1,13 +1,12 @@
 -- Reading, then writing: each way out by one law.
 use borrow.Author.Needs.{needs}
-use Prim.Native.Nat.{_-_}
 use mathlib.Core.Path.{sym, ap, _∙_}
 use Rattle.layout.proofs.Bytes.{slice-bytes}
 use Rattle.sheet.specs.Returned.{verdict}
 use Rattle.writer.specs.Written.{written}
-use Rattle.exports.proofs.Reached.{two, not-read, as-written}
-use Rattle.exports.proofs.fissure_order.Statement.{statement}
-use Rattle.exports.proofs.fissure_order.Tie as tie
+use Rattle.fissures_c.proofs.Reached.{left, not-read, as-written}
+use Rattle.fissures_c.proofs.fissure_order.Statement.{statement}
+use Rattle.fissures_c.proofs.fissure_order.Tie as tie
 
 read-requires : tie.Need-read-requires
 read-requires c κs = search needs
@@ -36,8 +35,7 @@ cast-result-2 c = search needs
 returns : tie.Need-returns
 returns c =
     let z = c .before .before .before .before .before .before .args in
-    let q = not-read (z .s .now) (z .out .now) _ _ (sym (ap verdict (c .before .verdict .given .1)) ∙ c .before .before .before .read .ensures .judged) in
-    (q .0 .0, q .0 .1, q .1)
+    not-read (z .s .now) (z .out .now) _ _ (sym (ap verdict (c .before .verdict .given .1)) ∙ c .before .before .before .read .ensures .judged)
 
 same-length : tie.Need-same-length
 same-length c = search needs
@@ -49,8 +47,7 @@ returns-2 c =
     let z = r .before .before .before .args in
     let e = sym (r .read .ensures .judged) ∙ ap verdict (w .before .before .before .enum-told .given .1) in
     let q = as-written (z .s .now) (z .out .now) (slice-bytes (z .s .now) (r .before .before .shared-slice-known .given)) e (r .read .ensures .records) in
-    let t = two (sym (ap written (c .before .written .given .1)) ∙ w .write .ensures .0 ∙ q .0) in
-    (t .0, t .1, w .write .ensures .1 ∙ q .1)
+    left (sym (ap written (c .before .written .given .1)) ∙ w .write .ensures .0 ∙ q .0) (w .write .ensures .1 ∙ q .1)
 
 same-length-2 : tie.Need-same-length-2
 same-length-2 c = search needs
@@ -62,8 +59,7 @@ returns-3 c =
     let z = r .before .before .before .args in
     let e = sym (r .read .ensures .judged) ∙ ap verdict (w .before .before .before .enum-told .given .1) in
     let q = as-written (z .s .now) (z .out .now) (slice-bytes (z .s .now) (r .before .before .shared-slice-known .given)) e (r .read .ensures .records) in
-    let t = two (sym (ap written (c .before .written2 .given .1)) ∙ w .write .ensures .0 ∙ q .0) in
-    (t .0, t .1, w .write .ensures .1 ∙ q .1)
+    left (sym (ap written (c .before .written2 .given .1)) ∙ w .write .ensures .0 ∙ q .0) (w .write .ensures .1 ∙ q .1)
 
 pub fissure-order-spec : {M : Type 1} → statement M
 fissure-order-spec =

@@ -1,11 +1,10 @@
 -- Reading, then the plain run: its answer as two numbers.
 use borrow.Author.Needs.{needs}
-use Prim.Native.Nat.{_-_}
 use mathlib.Core.Path.{sym, ap, _∙_}
 use Rattle.plain_run.specs.Rolled.{rolled}
-use Rattle.exports.proofs.Reached.{two}
-use Rattle.exports.proofs.fissure_plain.Statement.{statement}
-use Rattle.exports.proofs.fissure_plain.Tie as tie
+use Rattle.fissures_c.proofs.Reached.{left}
+use Rattle.fissures_c.proofs.fissure_plain.Statement.{statement}
+use Rattle.fissures_c.proofs.fissure_plain.Tie as tie
 
 plain-roll-bytes-requires : tie.Need-plain-roll-bytes-requires
 plain-roll-bytes-requires c κs = search needs
@@ -25,8 +24,7 @@ same-length c = search needs
 returns : tie.Need-returns
 returns c =
     let h = c .before .before .before .before .before .plain-roll-bytes .ensures in
-    let t = two (sym (ap rolled (c .before .rolled .given .1)) ∙ h .answer) in
-    (t .0, t .1, h .buffer)
+    left (sym (ap rolled (c .before .rolled .given .1)) ∙ h .answer) (h .buffer)
 
 same-length-2 : tie.Need-same-length-2
 same-length-2 c = search needs
@@ -34,8 +32,7 @@ same-length-2 c = search needs
 returns-2 : tie.Need-returns-2
 returns-2 c =
     let h = c .before .before .before .before .before .plain-roll-bytes .ensures in
-    let t = two (sym (ap rolled (c .before .rolled2 .given .1)) ∙ h .answer) in
-    (t .0, t .1, h .buffer)
+    left (sym (ap rolled (c .before .rolled2 .given .1)) ∙ h .answer) (h .buffer)
 
 pub fissure-plain-spec : {M : Type 1} → statement M
 fissure-plain-spec =

@@ -1,0 +1,149 @@
+-- A session as numbers. Main theorems: `not-taken`, `short` and `taken`, what a slice stands for; `started`; `advanced` and `not-advanced`; `running`: a
+-- session over what was read is one over the sheet's own roll.
+use mathlib.Core.Path.{_≡_, refl, sym, ap, _∙_, subst}
+use mathlib.Core.Bool.{Bool, true, false}
+use mathlib.Core.List.{List, [], _∷_}
+use Prim.Native.Nat.{ℕ, _+_, _*_, _≤_, _<_, min}
+use native.Mathlib.Omega.{arith}
+use borrow.Author.Tests.{lt-ltb, le-ltb, ltb-false}
+use lib.Dec.{ltb}
+use lib.ListN.{length, take, drop, set}
+use Rattle.layout.specs.Bytes.{AllBytes}
+use Rattle.sheet.specs.Listing.{Listing, listing}
+use Rattle.sheet.specs.Returned.{Returned, accepted, gives, refused, verdict}
+use Rattle.sheet.specs.Scan.{verdictOf, commandsOf}
+use Rattle.sheet.specs.HandedIn.{handedIn, checkOf, sheetOf}
+use Rattle.sheet.specs.Lent.{andThen, orShort, after}
+use Rattle.sheet.proofs.Decided.{Decided, decided}
+use Rattle.sheet.proofs.Lent.{said-refused, kept, put, gave}
+use Rattle.sheet.proofs.RoundTrip.{handed-back, written-read}
+use Rattle.reader.specs.Reading.{recordsOf, ifAccepted}
+use Rattle.rule.specs.RowBytes.{rollBytes}
+use Rattle.rule.specs.Selection.{rollOf}
+use Rattle.plain_run.specs.declared.Rolled.the-variants.{Rows, Refused}
+use Rattle.plain_run.specs.Rolled.{rolled}
+use Rattle.session.specs.declared.Session.{Session}
+use Rattle.session.specs.declared.Advanced.{Advanced}
+use Rattle.session.specs.declared.Begun.{Begun}
+use Rattle.session.specs.Stepping as stepping
+use Rattle.fissures_c.specs.Answers.{told}
+use Rattle.fissures_c.specs.Steps.{shown, sessionFits, judge, Takes, startCall, rollIn, nextRows, shownThen, advanceReturns, advanceCall, runningCall}
+use Rattle.fissures_c.proofs.Reached.{left, left-two, left-four}
+
+-- one number put in front
+first-set : (l : List ℕ) (v : ℕ) → 1 ≤ length l → set l 0 v ≡ v ∷ drop 1 l
+first-set [] v h = absurd (omega arith)
+first-set (a ∷ l) v h = refl
+
+-- ---- what a slice stands for
+
+-- the session over what was read
+abbrev sessionOf : List ℕ → List ℕ → Session
+sessionOf s session = record { sheet = sheetOf (recordsOf s); shown = shown session }
+
+pub record Fits (s session : List ℕ) : Type 0 where
+  pub accepts : verdictOf s ≡ accepted
+  pub room : 1 ≤ length session
+
+fits-so : (v : Returned) (session : List ℕ) → Decided v → andThen v (sessionFits session) ≡ accepted → (v ≡ accepted) × (1 ≤ length session)
+unfolding andThen sessionFits
+fits-so accepted session d e = (refl, go (ltb (length session) 1) refl)
+  where
+    go : (b : Bool) → ltb (length session) 1 ≡ b → 1 ≤ length session
+    go true q = absurd (let z : _≡_ {A = ℕ} 0 1 = cc (rw q at e) in omega arith)
+    go false q = ltb-false (length session) 1 q
+fits-so (gives n) session d e = absurd d
+fits-so (refused n p) session d e = absurd (let z : _≡_ {A = ℕ} 0 1 = cc in omega arith)
+
+module _ (s session : List ℕ) where
+  pub fits : judge s session ≡ accepted → Fits s session
+  fits e = let f = fits-so (verdictOf s) session (decided s) e in record { accepts = f .0; room = f .1 }
+
+  pub not-taken : {n p : ℕ} {r : Begun} → verdict (r .answer) ≡ refused n p → verdictOf s ≡ refused n p → Takes s session r
+  not-taken a e =
+      let j = said-refused (sessionFits session) e in
+      record { answer = a ∙ sym j; held = λ f. absurd (let z : _≡_ {A = ℕ} 0 1 = cc in omega arith) }
+
+  pub short : {r : Begun} → verdict (r .answer) ≡ refused 12 1 → verdictOf s ≡ accepted → length session < 1 → Takes s session r
+  unfolding andThen sessionFits
+  short a e h =
+      let j : judge s session ≡ refused 12 1 = rw (e, lt-ltb (length session) 1 h) in
+      record { answer = a ∙ sym j; held = λ f. absurd (let z : _≡_ {A = ℕ} 0 1 = cc in omega arith) }
+
+  pub taken : {r : Begun} → verdict (r .answer) ≡ accepted → verdictOf s ≡ accepted → 1 ≤ length session → r .session ≡ sessionOf s session → Takes s session r
+  unfolding andThen sessionFits
+  taken a e h q =
+      let j : judge s session ≡ accepted = rw (e, le-ltb (length session) 1 h) in
+      record { answer = a ∙ sym j; held = λ f. q }
+
+  -- ---- open and reset
+
+  pub not-started : {n p : ℕ} → judge s session ≡ refused n p → (n, p, session) ≡ startCall s session
+  not-started e = let j = said-refused (gives 0) e in left (sym j) (sym (kept (0 ∷ []) session j))
+
+  pub started : judge s session ≡ accepted → (0, 0, set session 0 0) ≡ startCall s session
+  unfolding andThen
+  started e =
+      let j : andThen (judge s session) (gives 0) ≡ gives 0 = rw e in
+      left (sym j) (first-set session 0 (fits e .room) ∙ sym (put (0 ∷ []) session j))
+
+  -- ---- the session over the sheet's own roll
+
+  module _ (bytes : AllBytes s) (e : judge s session ≡ accepted) where
+    same-sheet : sheetOf (recordsOf s) ≡ sheetOf (listing (commandsOf s))
+    same-sheet = ap (λ v. sheetOf (ifAccepted v (listing (commandsOf s)))) (fits e .accepts)
+
+    same-records : handedIn (sheetOf (recordsOf s)) ≡ listing (commandsOf s)
+    same-records = ap handedIn same-sheet ∙ handed-back (listing (commandsOf s))
+
+    same-verdict : checkOf (sheetOf (recordsOf s)) ≡ judge s session
+    same-verdict = ap checkOf same-sheet ∙ written-read s bytes (fits e .accepts) .checked ∙ sym e
+
+    pub running : {t : Session} {Q : Returned} → t ≡ sessionOf s session → Q ≡ stepping.runningOf (checkOf (t .sheet)) t → told Q ≡ runningCall s session
+    running {t} q h =
+        left-two (h ∙ ap (λ (u : Session). stepping.runningOf (checkOf (u .sheet)) u) q ∙ (λ j. andThen (same-verdict j) (gives (length (drop (shown session) (rollOf (same-records j)))))))
+
+    module _ (n : ℕ) (out : List ℕ) where
+      abbrev R : Returned
+      R = advanceReturns s session n (length out)
+
+      same-rows : stepping.nextRows (sessionOf s session) n ≡ nextRows s session n
+      same-rows = ap (λ (T : Listing). take n (drop (shown session) (rollOf T))) same-records
+
+      same-answer : stepping.advanceOf (sessionOf s session) n (length out) ≡ R
+      same-answer = (λ j. stepping.advanceReturns (same-verdict j) (same-rows j) (length out))
+
+      module _ {t : Session} (q : t ≡ sessionOf s session) {exit : List ℕ} {r : Advanced} (a : stepping.Advances t n out exit r) where
+        h : stepping.Advances (sessionOf s session) n out exit r
+        h = subst (λ (u : Session). stepping.Advances u n out exit r) q a
+
+        buffer-then : exit ≡ after R (rollBytes (nextRows s session n)) out
+        buffer-then = h .buffer ∙ (λ j. after (same-answer j) (rollBytes (same-rows j)) out)
+
+        pub advanced-by : {k : ℕ} → r .answer ≡ Rows k → (0, k, set session 0 (r .session .shown), exit) ≡ advanceCall s session n out
+        unfolding stepping.advanceSession
+        advanced-by {k} f =
+            let rows = nextRows s session n in
+            let g : gives k ≡ stepping.advanceOf (sessionOf s session) n (length out) = sym (ap rolled f) ∙ h .answer in
+            let G : gives k ≡ R = g ∙ same-answer in
+            let c = gave (29 * length rows) (length out) (length rows) (accepted-decides (judge s session) e) G .count in
+            let b : r .session .shown ≡ min (shown session) (length (rollOf (handedIn (sheetOf (recordsOf s))))) + k = ap (λ (u : Session). u .shown) (h .session ∙ ap (λ (Q : Returned). stepping.advanceSession Q (sessionOf s session)) (sym g)) in
+            let d : r .session .shown ≡ shownThen s session n = b ∙ (λ j. min (shown session) (length (rollOf (same-records j))) + c j) in
+            left-four G (first-set session (r .session .shown) (fits e .room) ∙ ap (λ (v : ℕ). v ∷ drop 1 session) d ∙ sym (put (shownThen s session n ∷ []) session (sym G))) buffer-then
+          where
+            accepted-decides : (v : Returned) → v ≡ accepted → Decided v
+            accepted-decides v q = rw q tt
+
+        pub not-advanced : {m p : ℕ} → r .answer ≡ Refused m p → (m, p, session, exit) ≡ advanceCall s session n out
+        not-advanced f =
+            let G = sym (ap rolled f) ∙ h .answer ∙ same-answer in
+            left-four G (sym (kept (shownThen s session n ∷ []) session (sym G))) buffer-then
+
+  pub as-judged : (n : ℕ) (out : List ℕ) {m p : ℕ} → judge s session ≡ refused m p → (m, p, session, out) ≡ advanceCall s session n out
+  as-judged n out e =
+      let rows = nextRows s session n in
+      let j = said-refused (orShort (29 * length rows) (length out) (length rows)) e in
+      left-four (sym j) (sym (kept (shownThen s session n ∷ []) session j)) (sym (kept (rollBytes rows) out j))
+
+  pub not-running : {m p : ℕ} → judge s session ≡ refused m p → (m, p) ≡ runningCall s session
+  not-running e = left-two (sym (said-refused (gives (length (drop (shown session) (rollIn s)))) e))

@@ -1,0 +1,54 @@
+-- What each call on a sheet's bytes leaves: its two numbers, then what it may write, in the order of its arguments (SHEETS 11.1, 11.2).
+use mathlib.Core.Path.{_≡_}
+use mathlib.Core.List.{List}
+use Prim.Native.Nat.{ℕ}
+use lib.ListN.{length}
+use Rattle.sheet.specs.Lent.{andThen, orShort, after}
+use Rattle.sheet.specs.Returned.{Returned, accepted, gives, refused}
+use Rattle.sheet.specs.Listing.{listing}
+use Rattle.sheet.specs.Scan.{verdictOf, commandsOf}
+use Rattle.sheet.specs.Ordered.{orderedForm}
+use Rattle.reader.specs.Reading.{recordsOf}
+use Rattle.rule.specs.RowBytes.{rollBytes}
+use Rattle.rule.specs.Rows.{timeOf}
+use Rattle.rule.specs.Selection.{rollOf}
+use Rattle.cells.specs.CellsEntered.{cellsEntered}
+use Rattle.cells.specs.Grid.{side}
+use Rattle.plain_run.specs.Rolled.{rollReturns}
+use Rattle.grid_run.specs.GridRolled.{gridReturns}
+use Rattle.listing.specs.CellIds.{CellIds}
+use Rattle.listing.specs.Listed.{idBytes, cellCheck, listReturns, cell}
+use Rattle.fissures_c.specs.Answers.{number, other, leaves}
+
+-- reading a sheet and writing its ordered form (SHEETS 2.6)
+abbrev pub orderReturns : List ℕ → ℕ → Returned
+orderReturns s lent = let n = length (orderedForm (recordsOf s)) in andThen (verdictOf s) (orShort n lent n)
+
+abbrev pub orderCall : List ℕ → List ℕ → ℕ × ℕ × List ℕ
+orderCall s out = leaves (orderReturns s (length out)) (orderedForm (recordsOf s)) out
+
+-- reading a sheet and writing its roll by the plain run (SHEETS 5.9)
+abbrev pub plainCall : List ℕ → List ℕ → ℕ × ℕ × List ℕ
+plainCall s out = let S = listing (commandsOf s) in leaves (rollReturns (verdictOf s) S (length out)) (rollBytes (rollOf S)) out
+
+-- the count of cells where rows are given, else the number that stood there
+unfoldable pub countAfter : Returned → ℕ → ℕ → ℕ
+countAfter accepted entered lent = lent
+countAfter (gives n) entered lent = entered
+countAfter (refused n p) entered lent = lent
+
+-- reading a sheet and writing its roll by the grid of figure g: the roll, the two numbers and the count (SHEETS 6.9)
+abbrev pub gridCall : List ℕ → ℕ → List ℕ → ℕ → ℕ × ℕ × ℕ × List ℕ
+gridCall s g out cells =
+    let S = listing (commandsOf s) in
+    let R = gridReturns (verdictOf s) S g (length out) in
+    (number R, other R, countAfter R (cellsEntered S g) cells, after R (rollBytes (rollOf S)) out)
+
+-- reading a sheet and writing the ids of one cell, whose order is open (SHEETS 6.10)
+abbrev pub cellAnswer : List ℕ → ℕ → ℕ → ℕ → List ℕ → ℕ → Returned
+cellAnswer s g column row ids lent = listReturns (andThen (verdictOf s) (cellCheck g column row)) (length ids) lent
+
+pub record CellsListed (s : List ℕ) (g column row : ℕ) (before : List ℕ) (left : ℕ × ℕ × List ℕ) : Type 0 where
+  pub ids : List ℕ
+  pub are : let S = listing (commandsOf s) in andThen (verdictOf s) (cellCheck g column row) ≡ accepted → CellIds (timeOf (rollOf S)) (S .tracks) (side g) (cell column row) ids
+  pub leaves-them : left ≡ leaves (cellAnswer s g column row ids (length before)) (idBytes ids) before
