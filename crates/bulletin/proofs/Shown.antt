@@ -17,11 +17,11 @@ use Rattle.rule.specs.Selection.{rollOf}
 use Rattle.session.specs.declared.Session.{Session}
 use Rattle.session.specs.declared.Advanced.{Advanced}
 use Rattle.session.specs.Stepping.{begun, nextRows, advanceReturns, advanceSession, advanceOf, Advances}
-use Rattle.plain_run.specs.Rolled.{rolled}
+use Rattle.sheet.specs.Answer.{answered}
 use Rattle.bulletin.specs.Bulletin.{firstRows, firstReturns, Shows}
 
 module _ (s : List ℕ) (n : ℕ) (lent : List ℕ) where
-  pub not-opened : {k p : ℕ} → verdictOf s ≡ refused k p → {r : Advanced} → rolled (r .answer) ≡ refused k p → r .session ≡ begun (sheetOf (recordsOf s)) → Shows s n lent lent r
+  pub not-opened : {k p : ℕ} → verdictOf s ≡ refused k p → {r : Advanced} → answered (r .answer) ≡ refused k p → r .session ≡ begun (sheetOf (recordsOf s)) → Shows s n lent lent r
   unfolding advanceSession
   not-opened e a z =
       let F = firstRows s n in

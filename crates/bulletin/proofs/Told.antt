@@ -17,8 +17,8 @@ use Rattle.reader.specs.Reading.{recordsOf, ifAccepted}
 use Rattle.rule.specs.declared.Row.{Row}
 use Rattle.rule.specs.RowBytes.{rollBytes}
 use Rattle.rule.specs.Selection.{rollOf}
-use Rattle.plain_run.specs.declared.Rolled.the-variants.{Rows, Refused}
-use Rattle.plain_run.specs.Rolled.{rolled}
+use Rattle.sheet.specs.declared.Answer.the-variants.{Gives, Refused}
+use Rattle.sheet.specs.Answer.{answered}
 use Rattle.session.specs.declared.Session.{Session}
 use Rattle.session.specs.declared.Advanced.{Advanced}
 use Rattle.session.specs.Stepping.{begun, advanceSession, runningOf}
@@ -63,9 +63,9 @@ module _ (s : List ℕ) (bytes : AllBytes s) where
       ∙ ap gives (left-behind (rollOf S))
 
   module _ {before rows : List ℕ} (long : length before ≡ 87) {r : Advanced} (h : Shows s 3 before rows r) where
-    pub rows-read : {n : ℕ} → r .answer ≡ Rows n → Read s rows n (r .session)
+    pub rows-read : {n : ℕ} → r .answer ≡ Gives n → Read s rows n (r .session)
     rows-read {n} q =
-        let g = gave (29 * length F) (length before) (length F) (decided s) (sym (ap rolled q) ∙ h .answer) in
+        let g = gave (29 * length F) (length before) (length F) (decided s) (sym (ap answered q) ∙ h .answer) in
         let v = said-given (29 * length F) (length before) (length F) (g .accepts) (g .room) in
         let x = h .buffer ∙ put (rollBytes F) before v in
         let rest = drop (length (rollBytes F)) before in
@@ -77,7 +77,7 @@ module _ (s : List ℕ) (bytes : AllBytes s) where
         }
 
     pub as-refused : {n p : ℕ} → r .answer ≡ Refused n p → verdictOf s ≡ refused n p
-    as-refused q = refused-so (29 * length F) (length before) (length F) (decided s) (λ e. omega (arith, three, long)) (sym (ap rolled q) ∙ h .answer)
+    as-refused q = refused-so (29 * length F) (length before) (length F) (decided s) (λ e. omega (arith, three, long)) (sym (ap answered q) ∙ h .answer)
 
   module _ {out exit : List ℕ} {end : ℕ} where
     pub tells : {rows mid : List ℕ} {at n : ℕ} {t : Session} → Read s rows n t → Behind (linesOf (rowsIn rows n)) 0 out at mid → Behind (runningText (runningOf (checkOf (t .sheet)) t)) at mid end exit → take end exit ≡ bulletinOf s

@@ -12,7 +12,7 @@ use Rattle.reader.specs.Reading.{recordsOf}
 use Rattle.rule.specs.declared.Row.{Row}
 use Rattle.rule.specs.RowBytes.{rollBytes}
 use Rattle.rule.specs.Selection.{rollOf}
-use Rattle.plain_run.specs.Rolled.{rolled}
+use Rattle.sheet.specs.Answer.{answered}
 use Rattle.session.specs.declared.Advanced.{Advanced}
 use Rattle.session.specs.Stepping.{begun, advanceReturns, advanceSession}
 use Rattle.text.specs.Lines.{refusedOf, stillOf}
@@ -27,7 +27,7 @@ firstReturns s n lent = advanceReturns (verdictOf s) (firstRows s n) lent
 
 -- the answer, the session handed back, and the buffer's contents at exit
 pub record Shows (s : List ℕ) (n : ℕ) (before exit : List ℕ) (r : Advanced) : Type 0 where
-  pub answer : rolled (r .answer) ≡ firstReturns s n (length before)
+  pub answer : answered (r .answer) ≡ firstReturns s n (length before)
   pub session : r .session ≡ advanceSession (firstReturns s n (length before)) (begun (sheetOf (recordsOf s)))
   pub buffer : exit ≡ after (firstReturns s n (length before)) (rollBytes (firstRows s n)) before
 

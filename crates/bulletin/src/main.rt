@@ -9,7 +9,7 @@ ghost use Rattle.session.specs.Stepping.{runningOf};
 ghost use Rattle.page.specs.Behind.{Behind};
 ghost use Rattle.bulletin.specs.Bulletin.{Shows, runningText, bulletinOf};
 use fissures::Advanced;
-use fissures::Rolled;
+use fissures::Answer;
 use fissures::Session;
 use fissures::Verdict;
 use libc::STDIN_FILENO;
@@ -27,7 +27,7 @@ fn first_rows(sheet: &[u8], n: usize, rows: &mut [u8]) -> Advanced
         Verdict::Accepted => session.advance(n, rows),
         Verdict::Refused(number, place) => Advanced {
             session,
-            answer: Rolled::Refused(number, place),
+            answer: Answer::Refused(number, place),
         },
     }
 }
@@ -39,8 +39,8 @@ fn put_running(session: Session, at: usize, out: &mut [u8]) -> usize
 {
     let running = session.running();
     match running {
-        Rolled::Rows(n) => page::put_running(n, at, out),
-        Rolled::Refused(_, _) => at,
+        Answer::Gives(n) => page::put_running(n, at, out),
+        Answer::Refused(_, _) => at,
     }
 }
 
@@ -54,11 +54,11 @@ fn bulletin(sheet: &[u8], out: &mut [u8]) -> usize
     let session = shown.session;
     let answer = shown.answer;
     match answer {
-        Rolled::Rows(n) => {
+        Answer::Gives(n) => {
             let at = page::put_rows(&rows, n, 0, out);
             put_running(session, at, out)
         }
-        Rolled::Refused(number, place) => page::put_refusal(number, place, out),
+        Answer::Refused(number, place) => page::put_refusal(number, place, out),
     }
 }
 

@@ -5,11 +5,11 @@
 pub use reader::Reading;
 pub use reader::read;
 pub use reader::scan;
+pub use sheet::Answer;
 pub use sheet::Sheet;
 pub use sheet::Track;
 pub use sheet::Verdict;
 pub use sheet::Wall;
-pub use writer::Written;
 pub use writer::check;
 pub use writer::write;
 
@@ -19,7 +19,6 @@ pub use grid_run::GridRolled;
 pub use grid_run::exchange;
 pub use grid_run::grid_roll;
 pub use grid_run::grid_roll_bytes;
-pub use plain_run::Rolled;
 pub use plain_run::plain_roll;
 pub use plain_run::plain_roll_bytes;
 
@@ -28,14 +27,12 @@ pub use rule::Ending;
 pub use rule::Row;
 pub use stored::Stored;
 pub use stored::row_at;
-pub use text::Text;
 pub use text::head;
 pub use text::line;
 pub use text::refusal;
 pub use text::still_running;
 
 // The stepping session, the partner's name or where it lies, the tracks of a cell.
-pub use listing::Listed;
 pub use listing::cell_tracks;
 pub use listing::cell_tracks_bytes;
 pub use names::partner_name;

@@ -20,8 +20,8 @@ use Rattle.sheet.proofs.RoundTrip.{handed-back, written-read}
 use Rattle.reader.specs.Reading.{recordsOf, ifAccepted}
 use Rattle.rule.specs.RowBytes.{rollBytes}
 use Rattle.rule.specs.Selection.{rollOf}
-use Rattle.plain_run.specs.declared.Rolled.the-variants.{Rows, Refused}
-use Rattle.plain_run.specs.Rolled.{rolled}
+use Rattle.sheet.specs.declared.Answer.the-variants.{Gives, Refused}
+use Rattle.sheet.specs.Answer.{answered}
 use Rattle.session.specs.declared.Session.{Session}
 use Rattle.session.specs.declared.Advanced.{Advanced}
 use Rattle.session.specs.declared.Begun.{Begun}
@@ -120,11 +120,11 @@ module _ (s session : List ℕ) where
         buffer-then : exit ≡ after R (rollBytes (nextRows s session n)) out
         buffer-then = h .buffer ∙ (λ j. after (same-answer j) (rollBytes (same-rows j)) out)
 
-        pub advanced-by : {k : ℕ} → r .answer ≡ Rows k → (0, k, set session 0 (r .session .shown), exit) ≡ advanceCall s session n out
+        pub advanced-by : {k : ℕ} → r .answer ≡ Gives k → (0, k, set session 0 (r .session .shown), exit) ≡ advanceCall s session n out
         unfolding stepping.advanceSession
         advanced-by {k} f =
             let rows = nextRows s session n in
-            let g : gives k ≡ stepping.advanceOf (sessionOf s session) n (length out) = sym (ap rolled f) ∙ h .answer in
+            let g : gives k ≡ stepping.advanceOf (sessionOf s session) n (length out) = sym (ap answered f) ∙ h .answer in
             let G : gives k ≡ R = g ∙ same-answer in
             let c = gave (29 * length rows) (length out) (length rows) (accepted-decides (judge s session) e) G .count in
             let b : r .session .shown ≡ min (shown session) (length (rollOf (handedIn (sheetOf (recordsOf s))))) + k = ap (λ (u : Session). u .shown) (h .session ∙ ap (λ (Q : Returned). stepping.advanceSession Q (sessionOf s session)) (sym g)) in
@@ -136,7 +136,7 @@ module _ (s session : List ℕ) where
 
         pub not-advanced : {m p : ℕ} → r .answer ≡ Refused m p → (m, p, session, exit) ≡ advanceCall s session n out
         not-advanced f =
-            let G = sym (ap rolled f) ∙ h .answer ∙ same-answer in
+            let G = sym (ap answered f) ∙ h .answer ∙ same-answer in
             left-four G (sym (kept (shownThen s session n ∷ []) session (sym G))) buffer-then
 
   pub as-judged : (n : ℕ) (out : List ℕ) {m p : ℕ} → judge s session ≡ refused m p → (m, p, session, out) ≡ advanceCall s session n out

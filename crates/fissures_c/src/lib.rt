@@ -6,14 +6,12 @@ ghost use Rattle.fissures_c.specs.Answers.{told};
 ghost use Rattle.fissures_c.specs.Calls.{orderCall, plainCall, gridCall, CellsListed};
 ghost use Rattle.fissures_c.specs.Steps.{Takes, startCall, advanceCall, runningCall, endingOf, nameCall};
 use grid_run::GridRolled;
-use listing::Listed;
 use names::place::Place;
-use plain_run::Rolled;
 use rule::Ending;
 use session::Begun;
 use session::Session;
+use sheet::Answer;
 use sheet::Verdict;
-use writer::Written;
 
 // The verdict on a sheet's bytes.
 #[no_mangle]
@@ -49,11 +47,11 @@ pub extern "C" fn fissure_order(s: &[u8], out: &mut [u8], second: &mut u64) -> u
             let sheet = reading.sheet;
             let written = writer::write(sheet, out);
             match written {
-                Written::Length(n) => {
+                Answer::Gives(n) => {
                     *second = n as u64;
                     0
                 }
-                Written::Refused(number, length) => {
+                Answer::Refused(number, length) => {
                     *second = length as u64;
                     number as u64
                 }
@@ -69,11 +67,11 @@ pub extern "C" fn fissure_plain(s: &[u8], out: &mut [u8], second: &mut u64) -> u
 {
     let rolled = plain_run::plain_roll_bytes(s, out);
     match rolled {
-        Rolled::Rows(n) => {
+        Answer::Gives(n) => {
             *second = n as u64;
             0
         }
-        Rolled::Refused(number, place) => {
+        Answer::Refused(number, place) => {
             *second = place as u64;
             number as u64
         }
@@ -123,11 +121,11 @@ pub extern "C" fn fissure_cells(
 {
     let listed = listing::cell_tracks_bytes(s, g, column, row, out);
     match listed {
-        Listed::Count(n) => {
+        Answer::Gives(n) => {
             *second = n as u64;
             0
         }
-        Listed::Refused(number, place) => {
+        Answer::Refused(number, place) => {
             *second = place as u64;
             number as u64
         }
@@ -205,12 +203,12 @@ pub extern "C" fn fissure_advance(
             let left = advanced.session;
             let answer = advanced.answer;
             match answer {
-                Rolled::Rows(k) => {
+                Answer::Gives(k) => {
                     session[0] = left.shown as u64;
                     *second = k as u64;
                     0
                 }
-                Rolled::Refused(number, needed) => {
+                Answer::Refused(number, needed) => {
                     *second = needed as u64;
                     number as u64
                 }
@@ -243,11 +241,11 @@ pub extern "C" fn fissure_running(s: &[u8], session: &[u64], second: &mut u64) -
             let held = taken.session;
             let running = held.running();
             match running {
-                Rolled::Rows(left) => {
+                Answer::Gives(left) => {
                     *second = left as u64;
                     0
                 }
-                Rolled::Refused(number, at) => {
+                Answer::Refused(number, at) => {
                     *second = at as u64;
                     number as u64
                 }

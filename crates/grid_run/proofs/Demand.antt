@@ -36,8 +36,9 @@ use Rattle.cells.specs.Grid.{Figure}
 use Rattle.cells.specs.CellsEntered.{cellsEntered}
 use Rattle.cells.proofs.CellsEntered.{is-counted, the-count, trace-few, count-few, count-same}
 use Rattle.cells.proofs.Figures.{figure-is}
-use Rattle.plain_run.specs.declared.Rolled.{Rolled}
-use Rattle.plain_run.specs.Rolled.{rolled, needed, rollReturns, Rolls}
+use Rattle.sheet.specs.declared.Answer.{Answer}
+use Rattle.sheet.specs.Answer.{answered}
+use Rattle.plain_run.specs.Rolled.{needed, rollReturns, Rolls}
 use Rattle.grid_run.specs.declared.GridRolled.{GridRolled}
 use Rattle.grid_run.specs.declared.GridRolled.the-variants.{Rows, Refused}
 use Rattle.grid_run.specs.GridRolled.{Reported, gridRolled, withRows, GridRolls}
@@ -99,10 +100,10 @@ module _ (l : List Command) (fit : AllFit l) (ok : verdictOf (encodeAll l) ≡ a
     p : Reordered S T
     p = same-records v T i
 
-    plainly : (before exit : List ℕ) (r : Rolled) → Rolls v T before exit r → Outcome (rollOf S) before exit (rolled r)
+    plainly : (before exit : List ℕ) (r : Answer) → Rolls v T before exit r → Outcome (rollOf S) before exit (answered r)
     plainly before exit r h =
         let k = subst (λ (z : Returned). Rolls z T before exit r) (is-accepted v T i) h in
-        subst (λ (z : List Row). Outcome z before exit (rolled r)) (sym (roll-order p acc)) (outcome T (accepted-reordered p acc) before exit (rolled r) (k .answer) (k .buffer))
+        subst (λ (z : List Row). Outcome z before exit (answered r)) (sym (roll-order p acc)) (outcome T (accepted-reordered p acc) before exit (answered r) (k .answer) (k .buffer))
 
     gridly : (g : ℕ) → Figure g → (before exit : List ℕ) (r : GridRolled) → GridRolls v T g before exit r → Outcome (rollOf S) before exit (gridRolled r .returned) × Reports (cellsEntered S g) r
     gridly g f before exit r h =

@@ -13,8 +13,9 @@ use Rattle.rule.specs.Selection.{rollOf}
 use Rattle.cells.specs.CellsEntered.{cellsEntered}
 use Rattle.cells.specs.Grid.{isFigure, figureCheck}
 use Rattle.cells.proofs.Figures.{figure-checked, not-figure}
-use Rattle.plain_run.specs.declared.Rolled.{Rolled}
-use Rattle.plain_run.specs.Rolled.{rolled, needed, rollReturns, Rolls}
+use Rattle.sheet.specs.declared.Answer.{Answer}
+use Rattle.sheet.specs.Answer.{answered}
+use Rattle.plain_run.specs.Rolled.{needed, rollReturns, Rolls}
 use Rattle.grid_run.specs.declared.GridRolled.{GridRolled}
 use Rattle.grid_run.specs.declared.GridRolled.the-variants.{Refused}
 use Rattle.grid_run.specs.GridRolled.{gridRolled, gridReturns, withRows, GridRolls}
@@ -57,7 +58,7 @@ module _ (S : Listing) (g : ℕ) (before : List ℕ) where
   no-figure e = refused-by 13 g (not-figure g e)
 
   -- as the plain run does
-  pub as-plain : {exit : List ℕ} {p : Rolled} {r : GridRolled} → isFigure g ≡ true → gridRolled r .returned ≡ rolled p → gridRolled r .cells ≡ withRows (gridRolled r .returned) (cellsEntered S g) → Rolls accepted S before exit p → GridRolls accepted S g before exit r
+  pub as-plain : {exit : List ℕ} {p : Answer} {r : GridRolled} → isFigure g ≡ true → gridRolled r .returned ≡ answered p → gridRolled r .cells ≡ withRows (gridRolled r .returned) (cellsEntered S g) → Rolls accepted S before exit p → GridRolls accepted S g before exit r
   as-plain {r = r} e q k h =
       let x = figured S g (length before) e in
       record { answer = reported _ (cellsEntered S g) r (q ∙ h .answer ∙ sym x) k; buffer = h .buffer ∙ ap (λ (z : Returned). after z (rollBytes (rollOf S)) before) (sym x) }

@@ -21,8 +21,9 @@ use Rattle.cells.specs.declared.Cell.{Cell}
 use Rattle.cells.specs.Grid.{Figure, side}
 use Rattle.cells.specs.Touched.{CellsOf, Counted}
 use Rattle.cells.specs.CellsEntered.{cellsEntered}
-use Rattle.plain_run.specs.declared.Rolled.{Rolled}
-use Rattle.plain_run.specs.Rolled.{rolled, Rolls}
+use Rattle.sheet.specs.declared.Answer.{Answer}
+use Rattle.sheet.specs.Answer.{answered}
+use Rattle.plain_run.specs.Rolled.{Rolls}
 use Rattle.grid_run.specs.declared.GridRolled.{GridRolled}
 use Rattle.grid_run.specs.declared.GridRolled.the-variants.{Rows, Refused}
 use Rattle.grid_run.specs.GridRolled.{gridRolled, GridRolls}
@@ -63,9 +64,9 @@ pub record Demand3 (l : List Command) : Type 0 where
   pub all-accepted : (v : Returned) (S : Listing) → Given l v S → v ≡ accepted
   pub one-rule : (v : Returned) (S : Listing) → Given l v S → (q : List Row) → MeetsRows (listing l) q ↔ MeetsRows S q
   -- what the contracts of plain_roll and plain_roll_bytes then come to
-  pub by-plain : (v : Returned) (S : Listing) → Given l v S → (before exit : List ℕ) (r : Rolled) → Rolls v S before exit r → Outcome roll before exit (rolled r)
+  pub by-plain : (v : Returned) (S : Listing) → Given l v S → (before exit : List ℕ) (r : Answer) → Rolls v S before exit r → Outcome roll before exit (answered r)
   -- and those of grid_roll and grid_roll_bytes, at each of the six figures
   pub by-grid : (v : Returned) (S : Listing) (g : ℕ) → Given l v S → Figure g → (before exit : List ℕ) (r : GridRolled) → GridRolls v S g before exit r → Outcome roll before exit (gridRolled r .returned) × Reports (cellsEntered (listing l) g) r
   -- one and the same roll is written (SHEETS 10.1): any order by the plain run, any order and any figure by the grid run
-  pub equal : (v w : Returned) (S T : Listing) (g : ℕ) → Given l v S → Given l w T → Figure g → (plain plain′ grid grid′ : List ℕ) (p : Rolled) (r : GridRolled) →
+  pub equal : (v w : Returned) (S T : Listing) (g : ℕ) → Given l v S → Given l w T → Figure g → (plain plain′ grid grid′ : List ℕ) (p : Answer) (r : GridRolled) →
       Rolls v S plain plain′ p → GridRolls w T g grid grid′ r → 29 * length roll ≤ length plain → 29 * length roll ≤ length grid → take (29 * length roll) plain′ ≡ take (29 * length roll) grid′

@@ -8,7 +8,7 @@ ghost use Rattle.lines.specs.Lines.{Handed};
 ghost use Rattle.grid_run.specs.GridRolled.{GridRolls};
 ghost use Rattle.grid_run.specs.Exchanged.{Exchanges};
 pub use cells::is_figure;
-use plain_run::Rolled;
+use sheet::Answer;
 use sheet::Sheet;
 use sheet::Verdict;
 
@@ -20,7 +20,7 @@ pub enum GridRolled {
 
 // What the plain run gives of one listing, and the grid run of another.
 pub struct Exchanged {
-    pub plain: Rolled,
+    pub plain: Answer,
     pub grid: GridRolled,
 }
 

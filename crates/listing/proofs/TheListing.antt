@@ -15,21 +15,22 @@ use Rattle.rule.specs.Roll.{RollOf}
 use Rattle.rule.proofs.Existence.{roll-is}
 use Rattle.cells.specs.Grid.{Figure, figureCheck, side}
 use Rattle.cells.proofs.Figures.{figure-is}
-use Rattle.listing.specs.declared.Listed.{Listed}
+use Rattle.sheet.specs.declared.Answer.{Answer}
 use Rattle.listing.specs.CellIds.{CellIds}
-use Rattle.listing.specs.Listed.{listed, idBytes, cellCheck, cell, Lists}
+use Rattle.sheet.specs.Answer.{answered}
+use Rattle.listing.specs.Listed.{idBytes, cellCheck, cell, Lists}
 use Rattle.listing.proofs.Ids.{bytes-length}
 
 -- the ids of the tracks that have a point in the cell while each tip ends at the time in its own row of `rows`, in front of the buffer's rest
-pub record TheListing (S : Listing) (rows : List Row) (g column row : ℕ) (before exit : List ℕ) (r : Listed) : Type 0 where
+pub record TheListing (S : Listing) (rows : List Row) (g column row : ℕ) (before exit : List ℕ) (r : Answer) : Type 0 where
   pub ids : List ℕ
   pub are : CellIds (timeOf rows) (S .tracks) (side g) (cell column row) ids
-  pub answer : listed r ≡ gives (length ids)
+  pub answer : answered r ≡ gives (length ids)
   pub written : exit ≡ idBytes ids ++ drop (2 * length ids) before
 
 -- `rows` is any roll of the sheet, of which there is one
 pub the-listing :
-    (S : Listing) (rows : List Row) (g column row : ℕ) (before exit : List ℕ) (r : Listed) → Accepted S → RollOf S rows → Figure g → column < g → row < g
+    (S : Listing) (rows : List Row) (g column row : ℕ) (before exit : List ℕ) (r : Answer) → Accepted S → RollOf S rows → Figure g → column < g → row < g
     → (h : Lists accepted S g column row before exit r) → 2 * length (h .ids) ≤ length before → TheListing S rows g column row before exit r
 unfolding andThen cellCheck figureCheck
 the-listing S rows g column row before exit r acc roll f c w h room =

@@ -13,14 +13,9 @@ use Rattle.rule.specs.Rows.{timeOf}
 use Rattle.rule.specs.Selection.{rollOf}
 use Rattle.cells.specs.declared.Cell.{Cell}
 use Rattle.cells.specs.Grid.{side, figureCheck}
-use Rattle.listing.specs.declared.Listed.{Listed}
-use Rattle.listing.specs.declared.Listed.the-variants.{Count, Refused}
+use Rattle.sheet.specs.declared.Answer.{Answer}
+use Rattle.sheet.specs.Answer.{answered}
 use Rattle.listing.specs.CellIds.{CellIds}
-
--- the code's answer, in the numbers of SHEETS 3.1
-abbrev pub listed : Listed → Returned
-listed (Count n) = gives n
-listed (Refused n p) = refused n p
 
 -- ids in bytes, 16 bits each (SHEETS 6.10)
 unfoldable pub idBytes : List ℕ → List ℕ
@@ -40,8 +35,8 @@ abbrev pub cell : ℕ → ℕ → Cell
 cell column row = record { column = column; row = row }
 
 -- the answer and the buffer's contents at exit (SHEETS 6.10), for a sheet with a verdict and its records. Each tip ends by its own row of the roll (SHEETS 4.11)
-pub record Lists (v : Returned) (S : Listing) (g column row : ℕ) (before exit : List ℕ) (r : Listed) : Type 0 where
+pub record Lists (v : Returned) (S : Listing) (g column row : ℕ) (before exit : List ℕ) (r : Answer) : Type 0 where
   pub ids : List ℕ
   pub are : andThen v (cellCheck g column row) ≡ accepted → CellIds (timeOf (rollOf S)) (S .tracks) (side g) (cell column row) ids
-  pub answer : listed r ≡ listReturns (andThen v (cellCheck g column row)) (length ids) (length before)
+  pub answer : answered r ≡ listReturns (andThen v (cellCheck g column row)) (length ids) (length before)
   pub buffer : exit ≡ after (listReturns (andThen v (cellCheck g column row)) (length ids) (length before)) (idBytes ids) before

@@ -14,20 +14,21 @@ use Rattle.rule.specs.declared.Row.{Row}
 use Rattle.stored.specs.declared.Stored.{Stored}
 use Rattle.stored.specs.declared.Stored.the-variants.{Found, Nothing}
 use Rattle.stored.specs.Stored.{rowIn, rowsIn}
-use Rattle.text.specs.declared.Text.{Text}
-use Rattle.text.specs.declared.Text.the-variants.{Length, Refused}
+use Rattle.sheet.specs.declared.Answer.{Answer}
+use Rattle.sheet.specs.declared.Answer.the-variants.{Gives, Refused}
 use Rattle.text.specs.Lines.{lineOf}
-use Rattle.text.specs.Printed.{printed, Prints}
+use Rattle.sheet.specs.Answer.{answered}
+use Rattle.text.specs.Printed.{Prints}
 use Rattle.page.specs.Rows.{linesOf}
 use Rattle.page.specs.Behind.{Behind, lengthIn}
 
 -- ---- one text
 
-length-given : (t : Text) (n : ℕ) → printed t ≡ gives n → lengthIn t ≡ n
-length-given (Length m) n e = cc
+length-given : (t : Answer) (n : ℕ) → answered t ≡ gives n → lengthIn t ≡ n
+length-given (Gives m) n e = cc
 length-given (Refused m p) n e = absurd (let z : _≡_ {A = ℕ} 0 1 = cc in omega arith)
 
-module _ {text before exit : List ℕ} {t : Text} (h : Prints text before exit t) (room : length text ≤ length before) where
+module _ {text before exit : List ℕ} {t : Answer} (h : Prints text before exit t) (room : length text ≤ length before) where
   pub text-long : lengthIn t ≡ length text
   unfolding andThen
   text-long = length-given t (length text) (h .answer ∙ said-given {v = accepted} (length text) (length before) (length text) refl room)
@@ -54,7 +55,7 @@ module _ (at : ℕ) (out : List ℕ) (h : at ≤ length out) where
   post-none = omega (arith, mid-long, length-drop at out, length-drop (length out - at) (drop at out))
 
 -- into the part of a buffer from `at` on, of which `lent` is lent
-pub in-part : {text before lent part : List ℕ} {t : Text} {at end : ℕ} (more : List ℕ) → Prints text lent part t → length text ≤ length lent → end ≡ at + lengthIn t
+pub in-part : {text before lent part : List ℕ} {t : Answer} {at end : ℕ} (more : List ℕ) → Prints text lent part t → length text ≤ length lent → end ≡ at + lengthIn t
     → at + (length lent + length more) ≡ length before → Behind text at before end (take at before ++ (part ++ more))
 in-part {text} {before} {lent} {part} {t} {at} {end} more h room e sizes =
     let n = text-long h room in

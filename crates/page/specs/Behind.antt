@@ -3,8 +3,8 @@ use mathlib.Core.Path.{_≡_}
 use mathlib.Core.List.{List, _++_}
 use Prim.Native.Nat.{ℕ, _+_}
 use lib.ListN.{length, take}
-use Rattle.text.specs.declared.Text.{Text}
-use Rattle.text.specs.declared.Text.the-variants.{Length, Refused}
+use Rattle.sheet.specs.declared.Answer.{Answer}
+use Rattle.sheet.specs.declared.Answer.the-variants.{Gives, Refused}
 
 -- behind the first `at` bytes, up to `end`
 pub record Behind (text : List ℕ) (at : ℕ) (before : List ℕ) (end : ℕ) (exit : List ℕ) : Type 0 where
@@ -13,6 +13,6 @@ pub record Behind (text : List ℕ) (at : ℕ) (before : List ℕ) (end : ℕ) (
   pub same : length exit ≡ length before
 
 -- the length of a text that was written
-abbrev pub lengthIn : Text → ℕ
-lengthIn (Length n) = n
+abbrev pub lengthIn : Answer → ℕ
+lengthIn (Gives n) = n
 lengthIn (Refused n p) = 0

@@ -8,17 +8,17 @@ ghost use Rattle.text.specs.Lines.{lineOf, headOf, refusedOf, stillOf};
 ghost use Rattle.page.specs.Behind.{Behind, lengthIn};
 ghost use Rattle.page.specs.Rows.{linesOf};
 use rule::Row;
+use sheet::Answer;
 use stored::Stored;
-use text::Text;
 
 // Where a text ends that was written at a place.
-fn end_of(at: usize, t: Text) -> usize
+fn end_of(at: usize, t: Answer) -> usize
     requires { ⌜ at + lengthIn t < 18446744073709551616 ⌝ }
     ensures { λ r. ⌜ r ≡ at + lengthIn t ⌝ }
 {
     match t {
-        Text::Length(n) => at + n,
-        Text::Refused(_, _) => at,
+        Answer::Gives(n) => at + n,
+        Answer::Refused(_, _) => at,
     }
 }
 

@@ -15,8 +15,8 @@ use Rattle.rule.specs.Selection.{rollOf}
 use Rattle.row.specs.Written.{Written}
 use Rattle.lines.specs.Lines.{Handed}
 use Rattle.rule.proofs.RowBytes.{roll-bytes-length}
-use Rattle.plain_run.specs.declared.Rolled.{Rolled}
-use Rattle.plain_run.specs.declared.Rolled.the-variants.{Rows, Refused}
+use Rattle.sheet.specs.declared.Answer.{Answer}
+use Rattle.sheet.specs.declared.Answer.the-variants.{Gives, Refused}
 use Rattle.plain_run.specs.Rolled.{needed, Rolls}
 
 module _ (S : Listing) (before : List ℕ) where
@@ -25,11 +25,11 @@ module _ (S : Listing) (before : List ℕ) where
   as-refused n p e = let (a, b) = ending.as-refused (rollBytes (rollOf S)) before (needed S) (length (S .tracks)) e in record { answer = a; buffer = b }
 
   -- as an accepted sheet goes on
-  pub as-accepted : {v : Returned} {exit : List ℕ} {r : Rolled} → v ≡ accepted → Rolls accepted S before exit r → Rolls v S before exit r
+  pub as-accepted : {v : Returned} {exit : List ℕ} {r : Answer} → v ≡ accepted → Rolls accepted S before exit r → Rolls v S before exit r
   as-accepted {v} {exit} {r} e h = subst (λ (z : Returned). Rolls z S before exit r) (sym e) h
 
 -- of the same records
-pub of-same : {S T : Listing} {v : Returned} {before exit : List ℕ} {r : Rolled} → S ≡ T → Rolls v S before exit r → Rolls v T before exit r
+pub of-same : {S T : Listing} {v : Returned} {before exit : List ℕ} {r : Answer} → S ≡ T → Rolls v S before exit r → Rolls v T before exit r
 of-same {v = v} {before} {exit} {r} e h = subst (λ (z : Listing). Rolls v z before exit r) e h
 
 pub tracks-count : {s : Sheet} → Handed s → length (handedIn s .tracks) ≡ s .ntracks
@@ -42,7 +42,7 @@ module _ {s : Sheet} (r : Handed s) (before : List ℕ) where
       let (a, b) = ending.too-short {v = accepted} (rollBytes (rollOf S)) before (length (S .tracks)) refl (ap (λ (n : ℕ). 29 * n) (tracks-count r)) h in
       record { answer = a; buffer = b }
 
-  pub all-rows : {exit : List ℕ} → 29 * s .ntracks ≤ length before → Written (rollOf (handedIn s)) before exit → Rolls accepted (handedIn s) before exit (Rows (s .ntracks))
+  pub all-rows : {exit : List ℕ} → 29 * s .ntracks ≤ length before → Written (rollOf (handedIn s)) before exit → Rolls accepted (handedIn s) before exit (Gives (s .ntracks))
   all-rows h w =
       let S = handedIn s in
       let g = w .is ∙ ap (λ (n : ℕ). rollBytes (rollOf S) ++ drop n before) (sym (roll-bytes-length (rollOf S))) in

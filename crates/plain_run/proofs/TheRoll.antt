@@ -16,7 +16,7 @@ use Rattle.rule.specs.RowBytes.{rollBytes}
 use Rattle.rule.specs.Selection.{rollOf}
 use Rattle.rule.proofs.Existence.{roll-of, roll-is, roll-length}
 use Rattle.rule.proofs.RowBytes.{roll-bytes-length}
-use Rattle.plain_run.specs.declared.Rolled.{Rolled}
+use Rattle.sheet.specs.declared.Answer.{Answer}
 use Rattle.plain_run.specs.Rolled.{needed, Rolls}
 
 -- `rows` is a roll of S, there is no other, and its bytes stand in front of the buffer's rest
@@ -26,7 +26,7 @@ pub record TheRoll (S : Listing) (before exit : List ℕ) : Type 0 where
   pub no-other : (l : List Row) → RollOf S l → l ≡ rows
   pub written : exit ≡ rollBytes rows ++ drop (29 * length (S .tracks)) before
 
-pub the-roll : (S : Listing) (before exit : List ℕ) (r : Rolled) → Accepted S → Rolls accepted S before exit r → needed S ≤ length before → TheRoll S before exit
+pub the-roll : (S : Listing) (before exit : List ℕ) (r : Answer) → Accepted S → Rolls accepted S before exit r → needed S ≤ length before → TheRoll S before exit
 the-roll S before exit r acc h room =
     record {
       rows = rollOf S;
@@ -37,5 +37,5 @@ the-roll S before exit r acc h room =
           h .buffer ∙ put (rollBytes (rollOf S)) before (said-given {v = accepted} (needed S) (length before) (length (S .tracks)) refl room) ∙ ap (λ (k : ℕ). rollBytes (rollOf S) ++ drop k before) n;
     }
 
-pub sheet-roll : (s before exit : List ℕ) (r : Rolled) → AllBytes s → verdictOf s ≡ accepted → Rolls (verdictOf s) (listing (commandsOf s)) before exit r → needed (listing (commandsOf s)) ≤ length before → TheRoll (listing (commandsOf s)) before exit
+pub sheet-roll : (s before exit : List ℕ) (r : Answer) → AllBytes s → verdictOf s ≡ accepted → Rolls (verdictOf s) (listing (commandsOf s)) before exit r → needed (listing (commandsOf s)) ≤ length before → TheRoll (listing (commandsOf s)) before exit
 sheet-roll s before exit r b e h room = the-roll (listing (commandsOf s)) before exit r (accepted-records s b e) (rw e at h) room

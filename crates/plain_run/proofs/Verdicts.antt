@@ -13,9 +13,10 @@ use Rattle.sheet.proofs.Lent.{said-given, put, gave, refused-so}
 use Rattle.writer.proofs.Counts.{few}
 use Rattle.rule.specs.RowBytes.{rollBytes}
 use Rattle.rule.specs.Selection.{rollOf}
-use Rattle.plain_run.specs.declared.Rolled.{Rolled}
-use Rattle.plain_run.specs.declared.Rolled.the-variants.{Rows, Refused}
-use Rattle.plain_run.specs.Rolled.{rolled, needed, Rolls}
+use Rattle.sheet.specs.declared.Answer.{Answer}
+use Rattle.sheet.specs.declared.Answer.the-variants.{Gives, Refused}
+use Rattle.sheet.specs.Answer.{answered}
+use Rattle.plain_run.specs.Rolled.{needed, Rolls}
 
 pub record Whole (v : Returned) (S : Listing) (before exit : List ℕ) (all : ℕ) : Type 0 where
   pub accepts : v ≡ accepted
@@ -23,13 +24,13 @@ pub record Whole (v : Returned) (S : Listing) (before exit : List ℕ) (all : �
   pub room : needed S ≤ length before
   pub bytes : exit ≡ rollBytes (rollOf S) ++ drop (length (rollBytes (rollOf S))) before
 
-module _ (s : Sheet) {before exit : List ℕ} {r : Rolled} (w : Rolls (checkOf s) (handedIn s) before exit r) where
+module _ (s : Sheet) {before exit : List ℕ} {r : Answer} (w : Rolls (checkOf s) (handedIn s) before exit r) where
   abbrev S : Listing
   S = handedIn s
 
-  pub handed-rows : {all : ℕ} → r ≡ Rows all → Whole (checkOf s) (handedIn s) before exit all
+  pub handed-rows : {all : ℕ} → r ≡ Gives all → Whole (checkOf s) (handedIn s) before exit all
   handed-rows q =
-      let g = gave (needed S) (length before) (length (S .tracks)) (decided (listedForm s)) (sym (ap rolled q) ∙ w .answer) in
+      let g = gave (needed S) (length before) (length (S .tracks)) (decided (listedForm s)) (sym (ap answered q) ∙ w .answer) in
       record { accepts = g .accepts; count = g .count; room = g .room; bytes = w .buffer ∙ put (rollBytes (rollOf S)) before (said-given (needed S) (length before) (length (S .tracks)) (g .accepts) (g .room)) }
 
   -- 256 rows are enough
@@ -37,4 +38,4 @@ module _ (s : Sheet) {before exit : List ℕ} {r : Rolled} (w : Rolls (checkOf s
   handed-refused t u h q =
       refused-so (needed S) (length before) (length (S .tracks)) (decided (listedForm s))
       (λ ok. omega (arith, few s t u ok .0, h, length-take (s .ntracks) (s .tracks ++ (noTrack ∷ []))))
-      (sym (ap rolled q) ∙ w .answer)
+      (sym (ap answered q) ∙ w .answer)

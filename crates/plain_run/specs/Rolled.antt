@@ -8,13 +8,8 @@ use Rattle.sheet.specs.Listing.{Listing}
 use Rattle.sheet.specs.Returned.{Returned, gives, refused}
 use Rattle.rule.specs.RowBytes.{rollBytes}
 use Rattle.rule.specs.Selection.{rollOf}
-use Rattle.plain_run.specs.declared.Rolled.{Rolled}
-use Rattle.plain_run.specs.declared.Rolled.the-variants.{Rows, Refused}
-
--- the code's answer, in the numbers of SHEETS 3.1
-abbrev pub rolled : Rolled → Returned
-rolled (Rows n) = gives n
-rolled (Refused n p) = refused n p
+use Rattle.sheet.specs.declared.Answer.{Answer}
+use Rattle.sheet.specs.Answer.{answered}
 
 -- the bytes of a roll (SHEETS 5.6)
 abbrev pub needed : Listing → ℕ
@@ -25,6 +20,6 @@ abbrev pub rollReturns : Returned → Listing → ℕ → Returned
 rollReturns v S lent = andThen v (orShort (needed S) lent (length (S .tracks)))
 
 -- the answer and the buffer's contents at exit (SHEETS 3.10, 5.5, 5.6), for a sheet with a verdict and its records
-pub record Rolls (v : Returned) (S : Listing) (before exit : List ℕ) (r : Rolled) : Type 0 where
-  pub answer : rolled r ≡ rollReturns v S (length before)
+pub record Rolls (v : Returned) (S : Listing) (before exit : List ℕ) (r : Answer) : Type 0 where
+  pub answer : answered r ≡ rollReturns v S (length before)
   pub buffer : exit ≡ after (rollReturns v S (length before)) (rollBytes (rollOf S)) before

@@ -5,49 +5,44 @@ ghost use Rattle.sheet.specs.Scan.{verdictOf, commandsOf};
 ghost use Rattle.sheet.specs.HandedIn.{handedIn, checkOf};
 ghost use Rattle.lines.specs.Lines.{Handed};
 ghost use Rattle.plain_run.specs.Rolled.{Rolls};
+use sheet::Answer;
 use sheet::Sheet;
 use sheet::Verdict;
 
-// The number of rows, or the table's number with its place or length.
-pub enum Rolled {
-    Rows(usize),
-    Refused(u8, usize),
-}
-
 // The rows of an accepted sheet, or 12.
-fn rows(sheet: Sheet, out: &mut [u8]) -> Rolled
+fn rows(sheet: Sheet, out: &mut [u8]) -> Answer
     requires { ⌜ Handed sheet ⌝ }
     ensures { λ r. ⌜ Rolls accepted (handedIn sheet) (now (out .entry)) (now (out .exit)) r ⌝ }
 {
     let n = sheet.ntracks;
     let needed = 29 * n;
     if out.len() < needed {
-        return Rolled::Refused(12, needed);
+        return Answer::Refused(12, needed);
     }
     plain::roll(sheet, out);
-    Rolled::Rows(n)
+    Answer::Gives(n)
 }
 
 // The roll of records handed in.
-pub fn plain_roll(sheet: Sheet, out: &mut [u8]) -> Rolled
+pub fn plain_roll(sheet: Sheet, out: &mut [u8]) -> Answer
     ensures { λ r. ⌜ Rolls (checkOf sheet) (handedIn sheet) (now (out .entry)) (now (out .exit)) r ⌝ }
 {
     let v = writer::check(sheet);
     match v {
-        Verdict::Refused(number, place) => Rolled::Refused(number, place),
+        Verdict::Refused(number, place) => Answer::Refused(number, place),
         Verdict::Accepted => rows(sheet, out),
     }
 }
 
 // The roll of a sheet's bytes.
-pub fn plain_roll_bytes(s: &[u8], out: &mut [u8]) -> Rolled
+pub fn plain_roll_bytes(s: &[u8], out: &mut [u8]) -> Answer
     ensures { λ r. ⌜ Rolls (verdictOf (now (s .entry))) (listing (commandsOf (now (s .entry)))) (now (out .entry)) (now (out .exit)) r ⌝ }
 {
     let r = reader::read(s);
     let v = r.verdict;
     let sheet = r.sheet;
     match v {
-        Verdict::Refused(number, place) => Rolled::Refused(number, place),
+        Verdict::Refused(number, place) => Answer::Refused(number, place),
         Verdict::Accepted => rows(sheet, out),
     }
 }

@@ -27,8 +27,9 @@ use Rattle.sheet.proofs.Order.{Reordered, accepted-reordered}
 use Rattle.sheet.proofs.RoundTrip.{accepted-records, listed, ordered-same, handed-back, same-sheet}
 use Rattle.reader.specs.declared.Reading.{Reading}
 use Rattle.reader.specs.Reading.{ifAccepted, ReadFrom}
-use Rattle.writer.specs.declared.Written.{Written}
-use Rattle.writer.specs.Written.{written, formOf}
+use Rattle.sheet.specs.declared.Answer.{Answer}
+use Rattle.sheet.specs.Answer.{answered}
+use Rattle.writer.specs.Written.{formOf}
 use Rattle.rule.specs.declared.Row.{Row}
 use Rattle.rule.specs.Rows.{time}
 use Rattle.rule.proofs.Existence.{roll-of}
@@ -56,8 +57,8 @@ read-as s T e l q h = h .records ∙ ap (λ (v : Returned). sheetOf (ifAccepted 
 
 -- what a writing of it leaves
 wrote :
-    (T : Listing) → Accepted T → (sheet : Sheet) → sheet ≡ sheetOf T → {before exit : List ℕ} {w : Written} → Writes sheet before exit w → length (orderedForm T) ≤ length before
-    → (written w ≡ gives (length (orderedForm T))) × (take (length (orderedForm T)) exit ≡ orderedForm T)
+    (T : Listing) → Accepted T → (sheet : Sheet) → sheet ≡ sheetOf T → {before exit : List ℕ} {w : Answer} → Writes sheet before exit w → length (orderedForm T) ≤ length before
+    → (answered w ≡ gives (length (orderedForm T))) × (take (length (orderedForm T)) exit ≡ orderedForm T)
 wrote T acc sheet e {before} {exit} {w} h room =
     let g : formOf sheet ≡ orderedForm T = ap formOf e ∙ ap orderedForm (handed-back T) in
     let F = formOf sheet in
@@ -95,14 +96,14 @@ module _ (s : List ℕ) (b : AllBytes s) (e : verdictOf s ≡ accepted) where
     first : r .sheet ≡ sheetOf S
     first = read-as s S e refl r h
 
-    once : {before exit : List ℕ} {w : Written} → Writes (r .sheet) before exit w → length s ≤ length before → (written w ≡ gives (length s)) × (take (length s) exit ≡ orderedForm S)
+    once : {before exit : List ℕ} {w : Answer} → Writes (r .sheet) before exit w → length s ≤ length before → (answered w ≡ gives (length s)) × (take (length s) exit ≡ orderedForm S)
     once c k = rw as-long at (wrote S acc (r .sheet) first c (rw as-long k))
 
     module _ (q : Reading) (k : ReadFrom (orderedForm S) q) where
       second : q .sheet ≡ sheetOf (ordered S)
       second = let t = same-sheet s b e .again in read-as (orderedForm S) (ordered S) (t .verdict) (t .records) q k
 
-      twice : {before exit : List ℕ} {w : Written} → Writes (q .sheet) before exit w → length s ≤ length before → take (length s) exit ≡ orderedForm S
+      twice : {before exit : List ℕ} {w : Answer} → Writes (q .sheet) before exit w → length s ≤ length before → take (length s) exit ≡ orderedForm S
       twice c m =
           let p = ordered-same S in
           let t = same-sheet s b e .bytes in

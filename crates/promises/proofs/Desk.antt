@@ -25,9 +25,9 @@ use Rattle.rule.specs.RowBytes.{rollBytes}
 use Rattle.rule.specs.Selection.{rollOf}
 use Rattle.rule.proofs.Existence.{roll-of}
 use Rattle.rule.proofs.OrderFree.{roll-order}
-use Rattle.plain_run.specs.declared.Rolled.{Rolled}
-use Rattle.plain_run.specs.declared.Rolled.the-variants.{Rows, Refused}
-use Rattle.plain_run.specs.Rolled.{rolled}
+use Rattle.sheet.specs.declared.Answer.{Answer}
+use Rattle.sheet.specs.declared.Answer.the-variants.{Gives, Refused}
+use Rattle.sheet.specs.Answer.{answered}
 use Rattle.session.specs.declared.Session.{Session}
 use Rattle.session.specs.declared.Begun.{Begun}
 use Rattle.session.specs.declared.Advanced.{Advanced}
@@ -40,12 +40,12 @@ use Rattle.promises.proofs.Sheets.{commands-fit, scanned, checks}
 
 -- ---- what an answer adds to the screen
 
-adds-rows : (x : Rolled) (k : ℕ) (exit : List ℕ) → rolled x ≡ gives k → adds x exit ≡ take (29 * k) exit
-adds-rows (Rows n) k exit e = let q : n ≡ k = cc in ap (λ (j : ℕ). take (29 * j) exit) q
+adds-rows : (x : Answer) (k : ℕ) (exit : List ℕ) → answered x ≡ gives k → adds x exit ≡ take (29 * k) exit
+adds-rows (Gives n) k exit e = let q : n ≡ k = cc in ap (λ (j : ℕ). take (29 * j) exit) q
 adds-rows (Refused n p) k exit e = absurd (let z : _≡_ {A = ℕ} 0 1 = cc in omega arith)
 
-adds-none : (x : Rolled) (n p : ℕ) (exit : List ℕ) → rolled x ≡ refused n p → adds x exit ≡ []
-adds-none (Rows k) n p exit e = absurd (let z : _≡_ {A = ℕ} 0 1 = cc in omega arith)
+adds-none : (x : Answer) (n p : ℕ) (exit : List ℕ) → answered x ≡ refused n p → adds x exit ≡ []
+adds-none (Gives k) n p exit e = absurd (let z : _≡_ {A = ℕ} 0 1 = cc in omega arith)
 adds-none (Refused m q) n p exit e = refl
 
 -- ---- where an advance brings the cursor

@@ -15,15 +15,16 @@ use Rattle.sheet.specs.Returned.{accepted, gives, verdict}
 use Rattle.sheet.specs.Scan.{commandsOf}
 use Rattle.reader.specs.declared.Reading.{Reading}
 use Rattle.reader.specs.Reading.{ReadFrom}
-use Rattle.writer.specs.declared.Written.{Written}
-use Rattle.writer.specs.Written.{written, writeOf, bufferAfter}
+use Rattle.sheet.specs.declared.Answer.{Answer}
+use Rattle.sheet.specs.Answer.{answered}
+use Rattle.writer.specs.Written.{writeOf, bufferAfter}
 use Rattle.rule.specs.declared.Row.{Row}
 use Rattle.rule.specs.Rows.{time}
 use Rattle.promises.specs.Runs.{InRoll}
 
 -- a call of the writer: the caller's buffer before and after it, and its answer, as its contract says
-pub record Writes (sheet : Sheet) (before exit : List ℕ) (w : Written) : Type 0 where
-  pub answer : written w ≡ writeOf sheet (length before)
+pub record Writes (sheet : Sheet) (before exit : List ℕ) (w : Answer) : Type 0 where
+  pub answer : answered w ≡ writeOf sheet (length before)
   pub buffer : exit ≡ bufferAfter sheet before
 
 -- the same tracks and the same walls, in whatever order
@@ -39,17 +40,17 @@ pub record Again (sheet : Sheet) (file : List ℕ) : Type 0 where
   pub same : (q : Reading) → ReadFrom file q → SameRecords sheet (q .sheet)
   -- and written once more it gives the same bytes
   pub still :
-      (q : Reading) {before exit : List ℕ} {w : Written} → ReadFrom file q → Writes (q .sheet) before exit w → length file ≤ length before
+      (q : Reading) {before exit : List ℕ} {w : Answer} → ReadFrom file q → Writes (q .sheet) before exit w → length file ≤ length before
       → take (length file) exit ≡ file
 
 pub record Archive (s : List ℕ) : Type 0 where
   -- a sheet that was read can be written, in as many bytes
   pub as-long :
-      (r : Reading) {before exit : List ℕ} {w : Written} → ReadFrom s r → Writes (r .sheet) before exit w → length s ≤ length before
-      → written w ≡ gives (length s)
+      (r : Reading) {before exit : List ℕ} {w : Answer} → ReadFrom s r → Writes (r .sheet) before exit w → length s ≤ length before
+      → answered w ≡ gives (length s)
   -- and that is the same sheet
   pub again :
-      (r : Reading) {before exit : List ℕ} {w : Written} → ReadFrom s r → Writes (r .sheet) before exit w → length s ≤ length before
+      (r : Reading) {before exit : List ℕ} {w : Answer} → ReadFrom s r → Writes (r .sheet) before exit w → length s ≤ length before
       → Again (r .sheet) (take (length s) exit)
   -- the time in each row of the sheet is a fraction in lowest terms
   pub lowest : (r : Row) → InRoll (commandsOf s) r → (0 < r .den) × Lowest (r .num) (r .den)

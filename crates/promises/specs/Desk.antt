@@ -18,8 +18,8 @@ use Rattle.reader.specs.Reading.{recordsOf}
 use Rattle.rule.specs.declared.Row.{Row}
 use Rattle.rule.specs.Roll.{RollOf}
 use Rattle.rule.specs.RowBytes.{rollBytes}
-use Rattle.plain_run.specs.declared.Rolled.{Rolled}
-use Rattle.plain_run.specs.declared.Rolled.the-variants.{Rows, Refused}
+use Rattle.sheet.specs.declared.Answer.{Answer}
+use Rattle.sheet.specs.declared.Answer.the-variants.{Gives, Refused}
 use Rattle.session.specs.declared.Session.{Session}
 use Rattle.session.specs.declared.Begun.{Begun}
 use Rattle.session.specs.declared.Advanced.{Advanced}
@@ -38,8 +38,8 @@ pub data Opened (l : List Command) (r : Begun) : Type 0 where
   over-records : (sheet : Sheet) → List·Permᴰ l (commandsIn (handedIn sheet)) → Begins (checkOf sheet) (begun sheet) r → Opened l r
 
 -- what an advance adds to the screen: the rows that it says it wrote
-abbrev pub adds : Rolled → List ℕ → List ℕ
-adds (Rows k) exit = take (29 * k) exit
+abbrev pub adds : Answer → List ℕ → List ℕ
+adds (Gives k) exit = take (29 * k) exit
 adds (Refused number place) exit = []
 
 -- the session and the screen after some keys, the last key first; each call meets its contract. A reset clears the screen

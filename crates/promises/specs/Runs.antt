@@ -8,8 +8,9 @@ use Rattle.sheet.specs.Listing.{Listing, tracksOf}
 use Rattle.sheet.specs.Returned.{Returned, gives}
 use Rattle.rule.specs.declared.Row.{Row}
 use Rattle.cells.specs.Grid.{Figure}
-use Rattle.plain_run.specs.declared.Rolled.{Rolled}
-use Rattle.plain_run.specs.Rolled.{rolled, Rolls}
+use Rattle.sheet.specs.declared.Answer.{Answer}
+use Rattle.sheet.specs.Answer.{answered}
+use Rattle.plain_run.specs.Rolled.{Rolls}
 use Rattle.grid_run.specs.declared.GridRolled.{GridRolled}
 use Rattle.grid_run.specs.GridRolled.{gridRolled, GridRolls}
 use Rattle.grid_run.specs.Demand.{Given}
@@ -19,7 +20,7 @@ use Rattle.stored.specs.Stored.{rowIn}
 -- a call on the sheet of commands l, given in any order and as bytes or records: of either run, at any of the six figures.
 -- The caller's buffer before and after it, and what it returned
 pub data Run (l : List Command) (before exit : List ℕ) : Returned → Type 0 where
-  plain : {v : Returned} {S : Listing} (r : Rolled) → Given l v S → Rolls v S before exit r → Run l before exit (rolled r)
+  plain : {v : Returned} {S : Listing} (r : Answer) → Given l v S → Rolls v S before exit r → Run l before exit (answered r)
   grid : {v : Returned} {S : Listing} {g : ℕ} (r : GridRolled) → Given l v S → Figure g → GridRolls v S g before exit r → Run l before exit (gridRolled r .returned)
 
 -- a row for each track

@@ -12,9 +12,9 @@ use Rattle.sheet.proofs.Lent as ending
 use Rattle.rule.specs.RowBytes.{rollBytes}
 use Rattle.rule.proofs.Existence.{roll-length}
 use Rattle.lines.specs.Lines.{Handed}
-use Rattle.plain_run.specs.declared.Rolled.{Rolled}
+use Rattle.sheet.specs.declared.Answer.{Answer}
 use Rattle.plain_run.proofs.Outcome.{tracks-count}
-use Rattle.plain_run.specs.declared.Rolled.the-variants.{Rows, Refused}
+use Rattle.sheet.specs.declared.Answer.the-variants.{Gives, Refused}
 use Rattle.session.specs.declared.Session.{Session}
 use Rattle.session.specs.Stepping.{rollIn, rowsLeft, nextRows, shownIn, restart, begun, advanceSession, Advances, runningOf}
 use Rattle.session.proofs.Parts.{take-min, drop-min, rows-at}
@@ -28,7 +28,7 @@ module _ (s : Session) (n : ℕ) (before : List ℕ) where
   bytes = rollBytes (nextRows s n)
 
   -- as the sheet is refused
-  pub sheet-refused : {a b : ℕ} {r : Rolled} → checkOf (s .sheet) ≡ refused a b → r ≡ Refused a b → Advances s n before before (record { session = s; answer = r })
+  pub sheet-refused : {a b : ℕ} {r : Answer} → checkOf (s .sheet) ≡ refused a b → r ≡ Refused a b → Advances s n before before (record { session = s; answer = r })
   unfolding advanceSession
   sheet-refused e q =
       let (x, b) = ending.as-refused bytes before (29 * length (nextRows s n)) (length (nextRows s n)) e in
@@ -55,7 +55,7 @@ module _ (s : Session) (n : ℕ) (before : List ℕ) where
 
     pub shows : (rest : List ℕ) {exit whole part : List ℕ} → 29 * k ≤ length before → whole ≡ rollBytes (rollIn s) ++ rest
         → part ≡ take (29 * from + 29 * k - 29 * from) (drop (29 * from) whole) → exit ≡ take (length part) part ++ drop (length part) before
-        → Advances s n before exit (record { session = record { sheet = s .sheet; shown = from + k }; answer = Rows k })
+        → Advances s n before exit (record { session = record { sheet = s .sheet; shown = from + k }; answer = Gives k })
     unfolding advanceSession
     shows rest {exit} {whole} {part} h w p q =
         let new = nextRows s n in

@@ -23,7 +23,7 @@ use Rattle.rule.specs.RowBytes.{rollBytes}
 use Rattle.rule.specs.Selection.{rollOf}
 use Rattle.rule.proofs.RowBytes.{roll-bytes-length}
 use Rattle.row.proofs.Roll.{roll-append}
-use Rattle.plain_run.specs.Rolled.{rolled}
+use Rattle.sheet.specs.Answer.{answered}
 use Rattle.session.specs.declared.Session.{Session}
 use Rattle.session.specs.declared.Begun.{Begun}
 use Rattle.session.specs.declared.Advanced.{Advanced}
@@ -40,7 +40,7 @@ pub record Went (s : Session) (n : ℕ) (exit : List ℕ) (after : Session) (k :
   pub bytes : take (29 * k) exit ≡ rollBytes (nextRows s n)
 
 module _ {s : Session} {n : ℕ} {before exit : List ℕ} {r : Advanced} (h : Advances s n before exit r) where
-  pub went : {k : ℕ} → rolled (r .answer) ≡ gives k → Went s n exit (r .session) k
+  pub went : {k : ℕ} → answered (r .answer) ≡ gives k → Went s n exit (r .session) k
   unfolding advanceSession
   went {k} e =
       let rows = nextRows s n in
@@ -54,7 +54,7 @@ module _ {s : Session} {n : ℕ} {before exit : List ℕ} {r : Advanced} (h : Ad
       }
 
   -- an accepted call hands back a session whose count is within its roll
-  pub within : {k : ℕ} → rolled (r .answer) ≡ gives k → r .session .shown ≤ length (rollIn (r .session))
+  pub within : {k : ℕ} → answered (r .answer) ≡ gives k → r .session .shown ≤ length (rollIn (r .session))
   within {k} e =
       let w = went e in
       let c = w .count ∙ length-take n (rowsLeft s) in
@@ -62,7 +62,7 @@ module _ {s : Session} {n : ℕ} {before exit : List ℕ} {r : Advanced} (h : Ad
       subst (λ (t : Session). t .shown ≤ length (rollIn t)) (sym (w .session)) (omega (arith, c, d))
 
   -- a refused call hands back the very session and changes no byte
-  pub kept : {m p : ℕ} → rolled (r .answer) ≡ refused m p → (r .session ≡ s) × (exit ≡ before)
+  pub kept : {m p : ℕ} → answered (r .answer) ≡ refused m p → (r .session ≡ s) × (exit ≡ before)
   unfolding advanceSession
   kept e = let g = sym (h .answer) ∙ e in (rw g at (h .session), h .buffer ∙ ending.kept (rollBytes (nextRows s n)) before g)
 
@@ -72,8 +72,8 @@ module _ {s : Session} {n : ℕ} {before exit : List ℕ} {r : Advanced} (h : Ad
 pub data Steps (S : Listing) : Session → List ℕ → ℕ → Type 0 where
   opened : (b : List ℕ) (r : Begun) → AllBytes b → Begins (verdictOf b) (begun (sheetOf (recordsOf b))) r → verdict (r .answer) ≡ accepted → listing (commandsOf b) ≡ S → Steps S (r .session) [] 0
   handed : (sheet : Sheet) (r : Begun) → Begins (checkOf sheet) (begun sheet) r → verdict (r .answer) ≡ accepted → handedIn sheet ≡ S → Steps S (r .session) [] 0
-  advanced : (s : Session) (w : List ℕ) (a n : ℕ) (before exit : List ℕ) (r : Advanced) (k : ℕ) → Steps S s w a → Advances s n before exit r → rolled (r .answer) ≡ gives k → Steps S (r .session) (w ++ take (29 * k) exit) (a + n)
-  not-advanced : (s : Session) (w : List ℕ) (a n : ℕ) (before exit : List ℕ) (r : Advanced) (m p : ℕ) → Steps S s w a → Advances s n before exit r → rolled (r .answer) ≡ refused m p → Steps S (r .session) w a
+  advanced : (s : Session) (w : List ℕ) (a n : ℕ) (before exit : List ℕ) (r : Advanced) (k : ℕ) → Steps S s w a → Advances s n before exit r → answered (r .answer) ≡ gives k → Steps S (r .session) (w ++ take (29 * k) exit) (a + n)
+  not-advanced : (s : Session) (w : List ℕ) (a n : ℕ) (before exit : List ℕ) (r : Advanced) (m p : ℕ) → Steps S s w a → Advances s n before exit r → answered (r .answer) ≡ refused m p → Steps S (r .session) w a
   reset : (s : Session) (w : List ℕ) (a : ℕ) (r : Begun) → Steps S s w a → Begins (checkOf (s .sheet)) (restart (checkOf (s .sheet)) s) r → verdict (r .answer) ≡ accepted → Steps S (r .session) [] 0
   not-reset : (s : Session) (w : List ℕ) (a : ℕ) (r : Begun) (m p : ℕ) → Steps S s w a → Begins (checkOf (s .sheet)) (restart (checkOf (s .sheet)) s) r → verdict (r .answer) ≡ refused m p → Steps S (r .session) w a
 

@@ -10,7 +10,7 @@ use Rattle.sheet.specs.HandedIn.{handedIn, checkOf}
 use Rattle.rule.specs.declared.Row.{Row}
 use Rattle.rule.specs.RowBytes.{rollBytes}
 use Rattle.rule.specs.Selection.{rollOf}
-use Rattle.plain_run.specs.Rolled.{rolled}
+use Rattle.sheet.specs.Answer.{answered}
 use Rattle.session.specs.declared.Session.{Session}
 use Rattle.session.specs.declared.Advanced.{Advanced}
 use Rattle.session.specs.declared.Begun.{Begun}
@@ -66,7 +66,7 @@ advanceOf s n lent = advanceReturns (checkOf (s .sheet)) (nextRows s n) lent
 
 -- the answer, the session handed back and the buffer's contents at exit (SHEETS 7.2, 7.6, 3.10)
 pub record Advances (s : Session) (n : ℕ) (before exit : List ℕ) (r : Advanced) : Type 0 where
-  pub answer : rolled (r .answer) ≡ advanceOf s n (length before)
+  pub answer : answered (r .answer) ≡ advanceOf s n (length before)
   pub session : r .session ≡ advanceSession (advanceOf s n (length before)) s
   pub buffer : exit ≡ after (advanceOf s n (length before)) (rollBytes (nextRows s n)) before
 

@@ -6,9 +6,9 @@ ghost use Rattle.sheet.specs.Returned.{verdict};
 ghost use Rattle.sheet.specs.Scan.{verdictOf};
 ghost use Rattle.sheet.specs.HandedIn.{checkOf, sheetOf};
 ghost use Rattle.reader.specs.Reading.{recordsOf};
-ghost use Rattle.plain_run.specs.Rolled.{rolled};
+ghost use Rattle.sheet.specs.Answer.{answered};
 ghost use Rattle.session.specs.Stepping.{begun, restart, Begins, Advances, runningOf};
-use plain_run::Rolled;
+use sheet::Answer;
 use sheet::Sheet;
 use sheet::Verdict;
 
@@ -20,7 +20,7 @@ pub struct Session {
 // The session handed back, and the number of rows written or the table's number with its place or length.
 pub struct Advanced {
     pub session: Session,
-    pub answer: Rolled,
+    pub answer: Answer,
 }
 
 // The session handed out, and whether its sheet is accepted or the table's number with its place.
@@ -72,11 +72,11 @@ impl Session {
         let mut roll = [0u8; 7424];
         let rolled = plain_run::plain_roll(sheet, &mut roll);
         match rolled {
-            Rolled::Refused(_, _) => Advanced {
+            Answer::Refused(_, _) => Advanced {
                 session: self,
                 answer: rolled,
             },
-            Rolled::Rows(all) => {
+            Answer::Gives(all) => {
                 let from = least(self.shown, all);
                 let left = all - from;
                 let k = least(n, left);
@@ -84,7 +84,7 @@ impl Session {
                 if out.len() < needed {
                     return Advanced {
                         session: self,
-                        answer: Rolled::Refused(12, needed),
+                        answer: Answer::Refused(12, needed),
                     };
                 }
                 let start = 29 * from;
@@ -94,7 +94,7 @@ impl Session {
                 let session = Session { sheet, shown };
                 Advanced {
                     session,
-                    answer: Rolled::Rows(k),
+                    answer: Answer::Gives(k),
                 }
             }
         }
@@ -119,18 +119,18 @@ impl Session {
     }
 
     // The number of tracks still running: the rows not yet shown (SHEETS 7.4).
-    pub fn running(self) -> Rolled
-        ensures { λ r. ⌜ rolled r ≡ runningOf (checkOf (self .sheet)) self ⌝ }
+    pub fn running(self) -> Answer
+        ensures { λ r. ⌜ answered r ≡ runningOf (checkOf (self .sheet)) self ⌝ }
     {
         let sheet = self.sheet;
         let v = writer::check(sheet);
         match v {
-            Verdict::Refused(number, place) => Rolled::Refused(number, place),
+            Verdict::Refused(number, place) => Answer::Refused(number, place),
             Verdict::Accepted => {
                 let all = sheet.ntracks;
                 let past = least(self.shown, all);
                 let left = all - past;
-                Rolled::Rows(left)
+                Answer::Gives(left)
             }
         }
     }

@@ -10,8 +10,8 @@ use Rattle.sheet.specs.Lent.{andThen}
 use Rattle.sheet.specs.Returned.{accepted}
 use Rattle.sheet.proofs.Lent as ending
 use Rattle.text.specs.declared.Draft.{Draft}
-use Rattle.text.specs.declared.Text.{Text}
-use Rattle.text.specs.declared.Text.the-variants.{Length, Refused}
+use Rattle.sheet.specs.declared.Answer.{Answer}
+use Rattle.sheet.specs.declared.Answer.the-variants.{Gives, Refused}
 use Rattle.text.specs.Printed.{Prints}
 use Rattle.text.specs.Held.{textIn, Holds}
 
@@ -26,11 +26,11 @@ module _ (text before : List ℕ) {n : ℕ} (e : length text ≡ n) where
   unfolding andThen
   short h = let (a, b) = ending.too-short {v = accepted} text before (length text) refl e h in record { answer = a; buffer = b }
 
-  pub copied : {exit : List ℕ} → n ≤ length before → exit ≡ text ++ drop n before → Prints text before exit (Length n)
+  pub copied : {exit : List ℕ} → n ≤ length before → exit ≡ text ++ drop n before → Prints text before exit (Gives n)
   unfolding andThen
   copied h k =
       let (a, b) = ending.stored {v = accepted} text before (length text) refl e (omega arith) (k ∙ ap (λ (m : ℕ). text ++ drop m before) (sym e)) in
       record { answer = a; buffer = b }
 
-pub prints : {text before exit : List ℕ} {line : Draft} {r : Text} → Holds text line → Prints (textIn line) before exit r → Prints text before exit r
+pub prints : {text before exit : List ℕ} {line : Draft} {r : Answer} → Holds text line → Prints (textIn line) before exit r → Prints text before exit r
 prints {text} {before} {exit} {line} {r} h p = subst (λ (t : List ℕ). Prints t before exit r) (h .is) p

@@ -5,19 +5,14 @@ use Prim.Native.Nat.{ℕ}
 use lib.ListN.{length}
 use Rattle.sheet.specs.Lent.{orShort, after}
 use Rattle.sheet.specs.Returned.{Returned, gives, refused}
-use Rattle.text.specs.declared.Text.{Text}
-use Rattle.text.specs.declared.Text.the-variants.{Length, Refused}
-
--- the code's answer, in the numbers of SHEETS 3.1
-abbrev pub printed : Text → Returned
-printed (Length n) = gives n
-printed (Refused n p) = refused n p
+use Rattle.sheet.specs.declared.Answer.{Answer}
+use Rattle.sheet.specs.Answer.{answered}
 
 -- 12 (SHEETS 3.9), or the text's length
 abbrev pub textReturns : List ℕ → ℕ → Returned
 textReturns text lent = orShort (length text) lent (length text)
 
 -- the answer and the buffer's contents at exit (SHEETS 3.10)
-pub record Prints (text before exit : List ℕ) (r : Text) : Type 0 where
-  pub answer : printed r ≡ textReturns text (length before)
+pub record Prints (text before exit : List ℕ) (r : Answer) : Type 0 where
+  pub answer : answered r ≡ textReturns text (length before)
   pub buffer : exit ≡ after (textReturns text (length before)) text before

@@ -7,12 +7,7 @@ ghost use Rattle.text.specs.Lines.{decimal, field, lineOf, headOf, refus
 ghost use Rattle.text.specs.Printed.{Prints};
 ghost use Rattle.text.specs.Held.{textIn, Holds, Room};
 use rule::Row;
-
-// The text's length, or the table's number with the length needed.
-pub enum Text {
-    Length(usize),
-    Refused(u8, usize),
-}
+use sheet::Answer;
 
 // A line while it is put together: none is longer than 160 bytes.
 struct Draft {
@@ -112,45 +107,45 @@ fn running_line(tracks: u64) -> Draft
 }
 
 // The line copied to the caller's buffer, or 12.
-fn give(line: Draft, out: &mut [u8]) -> Text
+fn give(line: Draft, out: &mut [u8]) -> Answer
     requires { ⌜ Room line 0 ⌝ }
     ensures { λ r. ⌜ Prints (textIn line) (now (out .entry)) (now (out .exit)) r ⌝ }
 {
     let n = line.length;
     if out.len() < n {
-        return Text::Refused(12, n);
+        return Answer::Refused(12, n);
     }
     let mut i = 0;
     while i < n {
         out[i] = line.bytes[i];
         i += 1;
     }
-    Text::Length(n)
+    Answer::Gives(n)
 }
 
 // The line of a row.
-pub fn line(row: Row, out: &mut [u8]) -> Text
+pub fn line(row: Row, out: &mut [u8]) -> Answer
     ensures { λ r. ⌜ Prints (lineOf row) (now (out .entry)) (now (out .exit)) r ⌝ }
 {
     give(row_line(row), out)
 }
 
 // The first line: the numbers of tracks and of cells entered.
-pub fn head(tracks: u64, cells: u64, out: &mut [u8]) -> Text
+pub fn head(tracks: u64, cells: u64, out: &mut [u8]) -> Answer
     ensures { λ r. ⌜ Prints (headOf tracks cells) (now (out .entry)) (now (out .exit)) r ⌝ }
 {
     give(head_line(tracks, cells), out)
 }
 
 // The line of a refusal: the table's number, and its place, length or figure.
-pub fn refusal(number: u8, place: usize, out: &mut [u8]) -> Text
+pub fn refusal(number: u8, place: usize, out: &mut [u8]) -> Answer
     ensures { λ r. ⌜ Prints (refusedOf number place) (now (out .entry)) (now (out .exit)) r ⌝ }
 {
     give(refusal_line(number, place), out)
 }
 
 // The line of the number of tracks that still run.
-pub fn still_running(tracks: u64, out: &mut [u8]) -> Text
+pub fn still_running(tracks: u64, out: &mut [u8]) -> Answer
     ensures { λ r. ⌜ Prints (stillOf tracks) (now (out .entry)) (now (out .exit)) r ⌝ }
 {
     give(running_line(tracks), out)

@@ -1,9 +1,8 @@
 // What is printed of each call's answer.
 use grid_run::GridRolled;
 use libc::STDOUT_FILENO;
-use plain_run::Rolled;
+use sheet::Answer;
 use sheet::Sheet;
-use writer::Written;
 
 // The low half of n as a digit.
 fn digit(n: u8) -> u8 {
@@ -50,22 +49,22 @@ pub fn print_form(sheet: Sheet) {
     let mut form = [0u8; 5121];
     let answer = writer::write(sheet, &mut form);
     match answer {
-        Written::Length(n) => print_hex(&form, n),
-        Written::Refused(number, place) => print_refusal(number, place),
+        Answer::Gives(n) => print_hex(&form, n),
+        Answer::Refused(number, place) => print_refusal(number, place),
     }
     print_text(b"\n");
 }
 
 // The plain run's rows, of at most 256 tracks.
-pub fn print_rows(answer: Rolled, rows: &[u8]) {
+pub fn print_rows(answer: Answer, rows: &[u8]) {
     print_text(b"roll ");
     match answer {
-        Rolled::Rows(n) => {
+        Answer::Gives(n) => {
             if n <= 256 {
                 print_hex(rows, 29 * n);
             }
         }
-        Rolled::Refused(number, place) => print_refusal(number, place),
+        Answer::Refused(number, place) => print_refusal(number, place),
     }
     print_text(b"\n");
 }

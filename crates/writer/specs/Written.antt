@@ -7,13 +7,8 @@ use Rattle.sheet.specs.Lent.{andThen, orShort, after}
 use Rattle.sheet.specs.Returned.{Returned, gives, refused}
 use Rattle.sheet.specs.Ordered.{orderedForm}
 use Rattle.sheet.specs.HandedIn.{handedIn, checkOf}
-use Rattle.writer.specs.declared.Written.{Written}
-use Rattle.writer.specs.declared.Written.the-variants.{Length, Refused}
-
--- the code's answer, in the numbers of SHEETS 3.1
-abbrev pub written : Written → Returned
-written (Length n) = gives n
-written (Refused n p) = refused n p
+use Rattle.sheet.specs.declared.Answer.{Answer}
+use Rattle.sheet.specs.Answer.{answered}
 
 -- what the writer gives (SHEETS 2.6, 2.7)
 abbrev pub formOf : Sheet → List ℕ

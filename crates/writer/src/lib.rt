@@ -3,15 +3,11 @@ ghost use mathlib.Core.Path.{_≡_};
 ghost use lib.ListN.{length};
 ghost use Rattle.sheet.specs.Returned.{verdict};
 ghost use Rattle.sheet.specs.HandedIn.{checkOf};
-ghost use Rattle.writer.specs.Written.{written, writeOf, bufferAfter};
+ghost use Rattle.sheet.specs.Answer.{answered};
+ghost use Rattle.writer.specs.Written.{writeOf, bufferAfter};
+use sheet::Answer;
 use sheet::Sheet;
 use sheet::Verdict;
-
-// The length written, or the table's number with its place or length.
-pub enum Written {
-    Length(usize),
-    Refused(u8, usize),
-}
 
 // The verdict on records handed in.
 pub fn check(sheet: Sheet) -> Verdict
@@ -23,19 +19,19 @@ pub fn check(sheet: Sheet) -> Verdict
 }
 
 // Writes the ordered form.
-pub fn write(sheet: Sheet, out: &mut [u8]) -> Written
-    ensures { λ r. ⌜ (written r ≡ writeOf sheet (length (now (out .entry)))) × (now (out .exit) ≡ bufferAfter sheet (now (out .entry))) ⌝ }
+pub fn write(sheet: Sheet, out: &mut [u8]) -> Answer
+    ensures { λ r. ⌜ (answered r ≡ writeOf sheet (length (now (out .entry)))) × (now (out .exit) ≡ bufferAfter sheet (now (out .entry))) ⌝ }
 {
     let v = check(sheet);
     match v {
-        Verdict::Refused(number, place) => Written::Refused(number, place),
+        Verdict::Refused(number, place) => Answer::Refused(number, place),
         Verdict::Accepted => {
             let needed = sheet.ntracks * 9 + sheet.nwalls * 11 + 1;
             if out.len() < needed {
-                return Written::Refused(12, needed);
+                return Answer::Refused(12, needed);
             }
             encoding::order(sheet, out);
-            Written::Length(needed)
+            Answer::Gives(needed)
         }
     }
 }

@@ -1,7 +1,7 @@
 -- The number's line; none on a refusal.
 use borrow.Author.Needs.{needs}
 use mathlib.Core.Path.{sym, ap, _∙_}
-use Rattle.plain_run.specs.Rolled.{rolled}
+use Rattle.sheet.specs.Answer.{answered}
 use Rattle.page.proofs.Putting.{nothing-put}
 use Rattle.bulletin.proofs.put_running.Statement.{statement}
 use Rattle.bulletin.proofs.put_running.Tie as tie
@@ -23,12 +23,12 @@ same-length c = search needs
 
 returns : tie.Need-returns
 returns c =
-    let e = sym (c .before .before .before .before .before .before .before .running .ensures) ∙ ap rolled (c .before .before .before .before .before .running2 .given .1) in
+    let e = sym (c .before .before .before .before .before .before .before .running .ensures) ∙ ap answered (c .before .before .before .before .before .running2 .given .1) in
     rw e (c .before .before .put-running .ensures)
 
 returns-2 : tie.Need-returns-2
 returns-2 c =
-    let e = sym (c .before .before .running .ensures) ∙ ap rolled (c .enum-told .given .1) in
+    let e = sym (c .before .before .running .ensures) ∙ ap answered (c .enum-told .given .1) in
     rw e (nothing-put _ _)
 
 pub put-running-spec : {M : Type 1} → statement M

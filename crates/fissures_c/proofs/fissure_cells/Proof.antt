@@ -1,7 +1,7 @@
 -- Reading, then the cell listing: its answer as two numbers.
 use borrow.Author.Needs.{needs}
 use mathlib.Core.Path.{sym, ap, _∙_}
-use Rattle.listing.specs.Listed.{listed}
+use Rattle.sheet.specs.Answer.{answered}
 use Rattle.fissures_c.proofs.Reached.{left}
 use Rattle.fissures_c.proofs.fissure_cells.Statement.{statement}
 use Rattle.fissures_c.proofs.fissure_cells.Tie as tie
@@ -24,7 +24,7 @@ same-length c = search needs
 returns : tie.Need-returns
 returns c =
     let h = c .before .before .before .before .before .cell-tracks-bytes .ensures in
-    record { ids = h .ids; are = h .are; leaves-them = left (sym (ap listed (c .before .listed .given .1)) ∙ h .answer) (h .buffer) }
+    record { ids = h .ids; are = h .are; leaves-them = left (sym (ap answered (c .before .listed .given .1)) ∙ h .answer) (h .buffer) }
 
 same-length-2 : tie.Need-same-length-2
 same-length-2 c = search needs
@@ -32,7 +32,7 @@ same-length-2 c = search needs
 returns-2 : tie.Need-returns-2
 returns-2 c =
     let h = c .before .before .before .before .before .cell-tracks-bytes .ensures in
-    record { ids = h .ids; are = h .are; leaves-them = left (sym (ap listed (c .before .listed2 .given .1)) ∙ h .answer) (h .buffer) }
+    record { ids = h .ids; are = h .are; leaves-them = left (sym (ap answered (c .before .listed2 .given .1)) ∙ h .answer) (h .buffer) }
 
 pub fissure-cells-spec : {M : Type 1} → statement M
 fissure-cells-spec =

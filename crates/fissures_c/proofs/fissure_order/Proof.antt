@@ -3,7 +3,7 @@ use borrow.Author.Needs.{needs}
 use mathlib.Core.Path.{sym, ap, _∙_}
 use Rattle.layout.proofs.Bytes.{slice-bytes}
 use Rattle.sheet.specs.Returned.{verdict}
-use Rattle.writer.specs.Written.{written}
+use Rattle.sheet.specs.Answer.{answered}
 use Rattle.fissures_c.proofs.Reached.{left, not-read, as-written}
 use Rattle.fissures_c.proofs.fissure_order.Statement.{statement}
 use Rattle.fissures_c.proofs.fissure_order.Tie as tie
@@ -47,7 +47,7 @@ returns-2 c =
     let z = r .before .before .before .args in
     let e = sym (r .read .ensures .judged) ∙ ap verdict (w .before .before .before .enum-told .given .1) in
     let q = as-written (z .s .now) (z .out .now) (slice-bytes (z .s .now) (r .before .before .shared-slice-known .given)) e (r .read .ensures .records) in
-    left (sym (ap written (c .before .written .given .1)) ∙ w .write .ensures .0 ∙ q .0) (w .write .ensures .1 ∙ q .1)
+    left (sym (ap answered (c .before .written .given .1)) ∙ w .write .ensures .0 ∙ q .0) (w .write .ensures .1 ∙ q .1)
 
 same-length-2 : tie.Need-same-length-2
 same-length-2 c = search needs
@@ -59,7 +59,7 @@ returns-3 c =
     let z = r .before .before .before .args in
     let e = sym (r .read .ensures .judged) ∙ ap verdict (w .before .before .before .enum-told .given .1) in
     let q = as-written (z .s .now) (z .out .now) (slice-bytes (z .s .now) (r .before .before .shared-slice-known .given)) e (r .read .ensures .records) in
-    left (sym (ap written (c .before .written2 .given .1)) ∙ w .write .ensures .0 ∙ q .0) (w .write .ensures .1 ∙ q .1)
+    left (sym (ap answered (c .before .written2 .given .1)) ∙ w .write .ensures .0 ∙ q .0) (w .write .ensures .1 ∙ q .1)
 
 pub fissure-order-spec : {M : Type 1} → statement M
 fissure-order-spec =

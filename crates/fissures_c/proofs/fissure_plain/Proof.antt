@@ -1,7 +1,7 @@
 -- Reading, then the plain run: its answer as two numbers.
 use borrow.Author.Needs.{needs}
 use mathlib.Core.Path.{sym, ap, _∙_}
-use Rattle.plain_run.specs.Rolled.{rolled}
+use Rattle.sheet.specs.Answer.{answered}
 use Rattle.fissures_c.proofs.Reached.{left}
 use Rattle.fissures_c.proofs.fissure_plain.Statement.{statement}
 use Rattle.fissures_c.proofs.fissure_plain.Tie as tie
@@ -24,7 +24,7 @@ same-length c = search needs
 returns : tie.Need-returns
 returns c =
     let h = c .before .before .before .before .before .plain-roll-bytes .ensures in
-    left (sym (ap rolled (c .before .rolled .given .1)) ∙ h .answer) (h .buffer)
+    left (sym (ap answered (c .before .rolled .given .1)) ∙ h .answer) (h .buffer)
 
 same-length-2 : tie.Need-same-length-2
 same-length-2 c = search needs
@@ -32,7 +32,7 @@ same-length-2 c = search needs
 returns-2 : tie.Need-returns-2
 returns-2 c =
     let h = c .before .before .before .before .before .plain-roll-bytes .ensures in
-    left (sym (ap rolled (c .before .rolled2 .given .1)) ∙ h .answer) (h .buffer)
+    left (sym (ap answered (c .before .rolled2 .given .1)) ∙ h .answer) (h .buffer)
 
 pub fissure-plain-spec : {M : Type 1} → statement M
 fissure-plain-spec =

@@ -3,7 +3,7 @@ use borrow.Author.Needs.{needs}
 use mathlib.Core.Path.{sym, ap, _∙_}
 use Rattle.sheet.specs.Returned.{verdict}
 use Rattle.layout.proofs.Bytes.{slice-bytes}
-use Rattle.plain_run.specs.Rolled.{rolled}
+use Rattle.sheet.specs.Answer.{answered}
 use Rattle.fissures_c.proofs.Stepped.{not-running, running}
 use Rattle.fissures_c.proofs.fissure_running.Statement.{statement}
 use Rattle.fissures_c.proofs.fissure_running.Tie as tie
@@ -42,14 +42,14 @@ returns-2 c =
     let z = c .before .before .before .before .before .before .before .before .before .before .args in
     let bytes = slice-bytes (z .s .now) (c .before .before .before .before .before .before .before .before .before .shared-slice-known .given) in
     let e = sym (c .before .before .before .before .before .before .before .take .ensures .answer) ∙ ap verdict (c .before .before .before .before .before .enum-told .given .1) in
-    running (z .s .now) (z .session .now) bytes e (c .before .before .before .before .before .before .before .take .ensures .held e) (sym (ap rolled (c .before .running2 .given .1)) ∙ c .before .before .before .running .ensures)
+    running (z .s .now) (z .session .now) bytes e (c .before .before .before .before .before .before .before .take .ensures .held e) (sym (ap answered (c .before .running2 .given .1)) ∙ c .before .before .before .running .ensures)
 
 returns-3 : tie.Need-returns-3
 returns-3 c =
     let z = c .before .before .before .before .before .before .before .before .before .before .args in
     let bytes = slice-bytes (z .s .now) (c .before .before .before .before .before .before .before .before .before .shared-slice-known .given) in
     let e = sym (c .before .before .before .before .before .before .before .take .ensures .answer) ∙ ap verdict (c .before .before .before .before .before .enum-told .given .1) in
-    running (z .s .now) (z .session .now) bytes e (c .before .before .before .before .before .before .before .take .ensures .held e) (sym (ap rolled (c .before .running3 .given .1)) ∙ c .before .before .before .running .ensures)
+    running (z .s .now) (z .session .now) bytes e (c .before .before .before .before .before .before .before .take .ensures .held e) (sym (ap answered (c .before .running3 .given .1)) ∙ c .before .before .before .running .ensures)
 
 pub fissure-running-spec : {M : Type 1} → statement M
 fissure-running-spec =
