@@ -233,8 +233,8 @@ pub extern "C" fn fissure_running(s: &[u8], session: &[u64], second: &mut u64) -
     let taken = take(s, session);
     let verdict = taken.answer;
     match verdict {
-        Verdict::Refused(number, place) => {
-            *second = place as u64;
+        Verdict::Refused(number, fault) => {
+            *second = fault as u64;
             number as u64
         }
         Verdict::Accepted => {
