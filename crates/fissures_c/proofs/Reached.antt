@@ -20,24 +20,29 @@ use Rattle.grid_run.specs.GridRolled.{withRows}
 use Rattle.fissures_c.specs.Answers.{number, other, told}
 use Rattle.fissures_c.specs.Calls.{orderReturns, orderCall, countAfter}
 
-module _ {R Q : Returned} (e : Q ≡ R) where
-  pub left-two : (number Q, other Q) ≡ told R
-  left-two = ap told e
+-- these two numbers were told
+abbrev pub Told : ℕ → ℕ → Returned → Type 0
+Told r second Q = _≡_ {A = ℕ × ℕ} (r, second) (told Q)
 
-  pub left : {x y : List ℕ} → x ≡ y → _≡_ {A = ℕ × ℕ × List ℕ} (number Q, other Q, x) (number R, other R, y)
-  left f = λ i. (number (e i), other (e i), f i)
+-- of Q, which is R
+module _ {r second : ℕ} {Q R : Returned} (t : Told r second Q) (e : Q ≡ R) where
+  pub left-two : _≡_ {A = ℕ × ℕ} (r, second) (told R)
+  left-two = t ∙ ap told e
 
-  pub left-four : {A B : Type 0} {a b : A} {x y : B} → a ≡ b → x ≡ y → _≡_ {A = ℕ × ℕ × A × B} (number Q, other Q, a, x) (number R, other R, b, y)
-  left-four f g = λ i. (number (e i), other (e i), f i, g i)
+  pub left : {x y : List ℕ} → x ≡ y → _≡_ {A = ℕ × ℕ × List ℕ} (r, second, x) (number R, other R, y)
+  left f = λ i. (left-two i .0, left-two i .1, f i)
+
+  pub left-four : {A B : Type 0} {a b : A} {x y : B} → a ≡ b → x ≡ y → _≡_ {A = ℕ × ℕ × A × B} (r, second, a, x) (number R, other R, b, y)
+  left-four f g = λ i. (left-two i .0, left-two i .1, f i, g i)
 
 -- ---- reading and writing
 
 module _ (s lent : List ℕ) where
-  pub not-read : (n p : ℕ) → refused n p ≡ verdictOf s → (n, p, lent) ≡ orderCall s lent
-  not-read n p e =
+  pub not-read : {r second n p : ℕ} → Told r second (refused n p) → refused n p ≡ verdictOf s → (r, second, lent) ≡ orderCall s lent
+  not-read t e =
       let w = orderedForm (recordsOf s) in
       let (a, b) = ending.as-refused w lent (length w) (length w) (sym e) in
-      left a b
+      left t a b
 
   pub as-written : AllBytes s → verdictOf s ≡ accepted → {sheet : Sheet} → sheet ≡ sheetOf (recordsOf s) → (writeOf sheet (length lent) ≡ orderReturns s (length lent)) × (bufferAfter sheet lent ≡ after (orderReturns s (length lent)) (orderedForm (recordsOf s)) lent)
   as-written b e {sheet} q =

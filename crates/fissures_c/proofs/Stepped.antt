@@ -1,4 +1,4 @@
--- A session as numbers. Main theorems: `not-taken`, `short` and `taken`, what a slice stands for; `started`; `advanced` and `not-advanced`; `running`: a
+-- A session as numbers. Main theorems: `not-taken`, `short` and `taken`, what a slice stands for; `started`; `advanced`; `running`: a
 -- session over what was read is one over the sheet's own roll.
 use mathlib.Core.Path.{_≡_, refl, sym, ap, _∙_, subst}
 use mathlib.Core.Bool.{Bool, true, false}
@@ -20,20 +20,25 @@ use Rattle.sheet.proofs.RoundTrip.{handed-back, written-read}
 use Rattle.reader.specs.Reading.{recordsOf, ifAccepted}
 use Rattle.rule.specs.RowBytes.{rollBytes}
 use Rattle.rule.specs.Selection.{rollOf}
+use Rattle.sheet.specs.declared.Answer.{Answer}
 use Rattle.sheet.specs.declared.Answer.the-variants.{Gives, Refused}
 use Rattle.sheet.specs.Answer.{answered}
 use Rattle.session.specs.declared.Session.{Session}
 use Rattle.session.specs.declared.Advanced.{Advanced}
 use Rattle.session.specs.declared.Begun.{Begun}
 use Rattle.session.specs.Stepping as stepping
-use Rattle.fissures_c.specs.Answers.{told}
 use Rattle.fissures_c.specs.Steps.{shown, sessionFits, judge, Takes, startCall, rollIn, nextRows, shownThen, advanceReturns, advanceCall, runningCall}
-use Rattle.fissures_c.proofs.Reached.{left, left-two, left-four}
+use Rattle.fissures_c.proofs.Reached.{Told, left, left-two, left-four}
 
 -- one number put in front
 first-set : (l : List ℕ) (v : ℕ) → 1 ≤ length l → set l 0 v ≡ v ∷ drop 1 l
 first-set [] v h = absurd (omega arith)
 first-set (a ∷ l) v h = refl
+
+-- the first number put there again
+set-again : (l : List ℕ) → set l 0 (shown l) ≡ l
+set-again [] = refl
+set-again (a ∷ l) = refl
 
 -- ---- what a slice stands for
 
@@ -78,14 +83,14 @@ module _ (s session : List ℕ) where
 
   -- ---- open and reset
 
-  pub not-started : {n p : ℕ} → judge s session ≡ refused n p → (n, p, session) ≡ startCall s session
-  not-started e = let j = said-refused (gives 0) e in left (sym j) (sym (kept (0 ∷ []) session j))
+  pub not-started : {r second n p : ℕ} → Told r second (refused n p) → judge s session ≡ refused n p → (r, second, session) ≡ startCall s session
+  not-started t e = let j = said-refused (gives 0) e in left t (sym j) (sym (kept (0 ∷ []) session j))
 
-  pub started : judge s session ≡ accepted → (0, 0, set session 0 0) ≡ startCall s session
+  pub started : {r second : ℕ} → Told r second (gives 0) → judge s session ≡ accepted → (r, second, set session 0 0) ≡ startCall s session
   unfolding andThen
-  started e =
+  started t e =
       let j : andThen (judge s session) (gives 0) ≡ gives 0 = rw e in
-      left (sym j) (first-set session 0 (fits e .room) ∙ sym (put (0 ∷ []) session j))
+      left t (sym j) (first-set session 0 (fits e .room) ∙ sym (put (0 ∷ []) session j))
 
   -- ---- the session over the sheet's own roll
 
@@ -99,9 +104,9 @@ module _ (s session : List ℕ) where
     same-verdict : checkOf (sheetOf (recordsOf s)) ≡ judge s session
     same-verdict = ap checkOf same-sheet ∙ written-read s bytes (fits e .accepts) .checked ∙ sym e
 
-    pub running : {t : Session} {Q : Returned} → t ≡ sessionOf s session → Q ≡ stepping.runningOf (checkOf (t .sheet)) t → told Q ≡ runningCall s session
-    running {t} q h =
-        left-two (h ∙ ap (λ (u : Session). stepping.runningOf (checkOf (u .sheet)) u) q ∙ (λ j. andThen (same-verdict j) (gives (length (drop (shown session) (rollOf (same-records j)))))))
+    pub running : {r second : ℕ} {t : Session} {Q : Returned} → Told r second Q → t ≡ sessionOf s session → Q ≡ stepping.runningOf (checkOf (t .sheet)) t → (r, second) ≡ runningCall s session
+    running {t = t} d q h =
+        left-two d (h ∙ ap (λ (u : Session). stepping.runningOf (checkOf (u .sheet)) u) q ∙ (λ j. andThen (same-verdict j) (gives (length (drop (shown session) (rollOf (same-records j)))))))
 
     module _ (n : ℕ) (out : List ℕ) where
       abbrev R : Returned
@@ -120,30 +125,43 @@ module _ (s session : List ℕ) where
         buffer-then : exit ≡ after R (rollBytes (nextRows s session n)) out
         buffer-then = h .buffer ∙ (λ j. after (same-answer j) (rollBytes (same-rows j)) out)
 
-        pub advanced-by : {k : ℕ} → r .answer ≡ Gives k → (0, k, set session 0 (r .session .shown), exit) ≡ advanceCall s session n out
+        told-of : answered (r .answer) ≡ R
+        told-of = h .answer ∙ same-answer
+
+        stored-given : {k : ℕ} → answered (r .answer) ≡ gives k → set session 0 (r .session .shown) ≡ after R (shownThen s session n ∷ []) session
         unfolding stepping.advanceSession
-        advanced-by {k} f =
+        stored-given {k} f =
             let rows = nextRows s session n in
-            let g : gives k ≡ stepping.advanceOf (sessionOf s session) n (length out) = sym (ap answered f) ∙ h .answer in
+            let g : gives k ≡ stepping.advanceOf (sessionOf s session) n (length out) = sym f ∙ h .answer in
             let G : gives k ≡ R = g ∙ same-answer in
             let c = gave (29 * length rows) (length out) (length rows) (accepted-decides (judge s session) e) G .count in
             let b : r .session .shown ≡ min (shown session) (length (rollOf (handedIn (sheetOf (recordsOf s))))) + k = ap (λ (u : Session). u .shown) (h .session ∙ ap (λ (Q : Returned). stepping.advanceSession Q (sessionOf s session)) (sym g)) in
             let d : r .session .shown ≡ shownThen s session n = b ∙ (λ j. min (shown session) (length (rollOf (same-records j))) + c j) in
-            left-four G (first-set session (r .session .shown) (fits e .room) ∙ ap (λ (v : ℕ). v ∷ drop 1 session) d ∙ sym (put (shownThen s session n ∷ []) session (sym G))) buffer-then
+            first-set session (r .session .shown) (fits e .room) ∙ ap (λ (v : ℕ). v ∷ drop 1 session) d ∙ sym (put (shownThen s session n ∷ []) session (sym G))
           where
             accepted-decides : (v : Returned) → v ≡ accepted → Decided v
             accepted-decides v q = rw q tt
 
-        pub not-advanced : {m p : ℕ} → r .answer ≡ Refused m p → (m, p, session, exit) ≡ advanceCall s session n out
-        not-advanced f =
-            let G = sym (ap answered f) ∙ h .answer ∙ same-answer in
-            left-four G (sym (kept (shownThen s session n ∷ []) session (sym G))) buffer-then
+        -- a refused advance hands back the very session
+        stored-kept : {m p : ℕ} → answered (r .answer) ≡ refused m p → set session 0 (r .session .shown) ≡ after R (shownThen s session n ∷ []) session
+        unfolding stepping.advanceSession
+        stored-kept {m} {p} f =
+            let g : refused m p ≡ stepping.advanceOf (sessionOf s session) n (length out) = sym f ∙ h .answer in
+            let b : r .session .shown ≡ shown session = ap (λ (u : Session). u .shown) (h .session ∙ ap (λ (Q : Returned). stepping.advanceSession Q (sessionOf s session)) (sym g)) in
+            ap (set session 0) b ∙ set-again session ∙ sym (kept (shownThen s session n ∷ []) session (sym (g ∙ same-answer)))
 
-  pub as-judged : (n : ℕ) (out : List ℕ) {m p : ℕ} → judge s session ≡ refused m p → (m, p, session, out) ≡ advanceCall s session n out
-  as-judged n out e =
+        pub advanced : {number second : ℕ} → Told number second (answered (r .answer)) → (number, second, set session 0 (r .session .shown), exit) ≡ advanceCall s session n out
+        advanced d = left-four d told-of (go (r .answer) refl) buffer-then
+          where
+            go : (a : Answer) → r .answer ≡ a → set session 0 (r .session .shown) ≡ after R (shownThen s session n ∷ []) session
+            go (Gives k) f = stored-given (ap answered f)
+            go (Refused m p) f = stored-kept (ap answered f)
+
+  pub as-judged : (n : ℕ) (out : List ℕ) {r second m p : ℕ} → Told r second (refused m p) → judge s session ≡ refused m p → (r, second, session, out) ≡ advanceCall s session n out
+  as-judged n out t e =
       let rows = nextRows s session n in
       let j = said-refused (orShort (29 * length rows) (length out) (length rows)) e in
-      left-four (sym j) (sym (kept (shownThen s session n ∷ []) session j)) (sym (kept (rollBytes rows) out j))
+      left-four t (sym j) (sym (kept (shownThen s session n ∷ []) session j)) (sym (kept (rollBytes rows) out j))
 
-  pub not-running : {m p : ℕ} → judge s session ≡ refused m p → (m, p) ≡ runningCall s session
-  not-running e = left-two (sym (said-refused (gives (length (drop (shown session) (rollIn s)))) e))
+  pub not-running : {r second m p : ℕ} → Told r second (refused m p) → judge s session ≡ refused m p → (r, second) ≡ runningCall s session
+  not-running t e = left-two t (sym (said-refused (gives (length (drop (shown session) (rollIn s)))) e))

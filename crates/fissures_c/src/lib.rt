@@ -2,6 +2,7 @@
 // the refusal, and stores the other number of its answer: the place or length of a refusal, or what an accepted call gives.
 ghost use mathlib.Core.Path.{_≡_};
 ghost use Rattle.sheet.specs.Scan.{verdictOf};
+ghost use Rattle.sheet.specs.Answer.{answered};
 ghost use Rattle.fissures_c.specs.Answers.{told};
 ghost use Rattle.fissures_c.specs.Calls.{orderCall, plainCall, gridCall, CellsListed};
 ghost use Rattle.fissures_c.specs.Steps.{Takes, startCall, advanceCall, runningCall, endingOf, nameCall};
@@ -13,6 +14,22 @@ use session::Session;
 use sheet::Answer;
 use sheet::Verdict;
 
+// The two numbers of an answer: the first is handed back, the other stored.
+fn tell(answer: Answer, second: &mut u64) -> u64
+    ensures { λ r. ⌜ (r, now (second .exit)) ≡ told (answered answer) ⌝ }
+{
+    match answer {
+        Answer::Gives(n) => {
+            *second = n as u64;
+            0
+        }
+        Answer::Refused(number, other) => {
+            *second = other as u64;
+            number as u64
+        }
+    }
+}
+
 // The verdict on a sheet's bytes.
 #[no_mangle]
 pub extern "C" fn fissure_check(s: &[u8], second: &mut u64) -> u64
@@ -20,14 +37,8 @@ pub extern "C" fn fissure_check(s: &[u8], second: &mut u64) -> u64
 {
     let verdict = reader::scan(s);
     match verdict {
-        Verdict::Accepted => {
-            *second = 0;
-            0
-        }
-        Verdict::Refused(number, command) => {
-            *second = command as u64;
-            number as u64
-        }
+        Verdict::Accepted => tell(Answer::Gives(0), second),
+        Verdict::Refused(number, place) => tell(Answer::Refused(number, place), second),
     }
 }
 
@@ -39,23 +50,10 @@ pub extern "C" fn fissure_order(s: &[u8], out: &mut [u8], second: &mut u64) -> u
     let reading = reader::read(s);
     let verdict = reading.verdict;
     match verdict {
-        Verdict::Refused(number, place) => {
-            *second = place as u64;
-            number as u64
-        }
+        Verdict::Refused(number, place) => tell(Answer::Refused(number, place), second),
         Verdict::Accepted => {
             let sheet = reading.sheet;
-            let written = writer::write(sheet, out);
-            match written {
-                Answer::Gives(n) => {
-                    *second = n as u64;
-                    0
-                }
-                Answer::Refused(number, length) => {
-                    *second = length as u64;
-                    number as u64
-                }
-            }
+            tell(writer::write(sheet, out), second)
         }
     }
 }
@@ -65,17 +63,7 @@ pub extern "C" fn fissure_order(s: &[u8], out: &mut [u8], second: &mut u64) -> u
 pub extern "C" fn fissure_plain(s: &[u8], out: &mut [u8], second: &mut u64) -> u64
     ensures { λ r. ⌜ (r, now (second .exit), now (out .exit)) ≡ plainCall (now (s .entry)) (now (out .entry)) ⌝ }
 {
-    let rolled = plain_run::plain_roll_bytes(s, out);
-    match rolled {
-        Answer::Gives(n) => {
-            *second = n as u64;
-            0
-        }
-        Answer::Refused(number, place) => {
-            *second = place as u64;
-            number as u64
-        }
-    }
+    tell(plain_run::plain_roll_bytes(s, out), second)
 }
 
 // Reads a sheet and writes its roll, by the grid run of figure g; gives the number of rows, and in `cells`
@@ -96,14 +84,10 @@ pub extern "C" fn fissure_grid(
             rows,
             cells: entered,
         } => {
-            *second = rows as u64;
             *cells = entered;
-            0
+            tell(Answer::Gives(rows), second)
         }
-        GridRolled::Refused(number, place) => {
-            *second = place as u64;
-            number as u64
-        }
+        GridRolled::Refused(number, place) => tell(Answer::Refused(number, place), second),
     }
 }
 
@@ -119,17 +103,7 @@ pub extern "C" fn fissure_cells(
 ) -> u64
     ensures { λ r. ⌜ CellsListed (now (s .entry)) g column row (now (out .entry)) (r, now (second .exit), now (out .exit)) ⌝ }
 {
-    let listed = listing::cell_tracks_bytes(s, g, column, row, out);
-    match listed {
-        Answer::Gives(n) => {
-            *second = n as u64;
-            0
-        }
-        Answer::Refused(number, place) => {
-            *second = place as u64;
-            number as u64
-        }
-    }
+    tell(listing::cell_tracks_bytes(s, g, column, row, out), second)
 }
 
 // The numbers of a session: one, the rows shown.
@@ -167,14 +141,10 @@ pub extern "C" fn fissure_open(s: &[u8], session: &mut [u64], second: &mut u64) 
     let taken = take(s, session);
     let verdict = taken.answer;
     match verdict {
-        Verdict::Refused(number, place) => {
-            *second = place as u64;
-            number as u64
-        }
+        Verdict::Refused(number, place) => tell(Answer::Refused(number, place), second),
         Verdict::Accepted => {
             session[0] = 0;
-            *second = 0;
-            0
+            tell(Answer::Gives(0), second)
         }
     }
 }
@@ -193,26 +163,14 @@ pub extern "C" fn fissure_advance(
     let taken = take(s, session);
     let verdict = taken.answer;
     match verdict {
-        Verdict::Refused(number, place) => {
-            *second = place as u64;
-            number as u64
-        }
+        Verdict::Refused(number, place) => tell(Answer::Refused(number, place), second),
         Verdict::Accepted => {
             let held = taken.session;
             let advanced = held.advance(n as usize, out);
             let left = advanced.session;
             let answer = advanced.answer;
-            match answer {
-                Answer::Gives(k) => {
-                    session[0] = left.shown as u64;
-                    *second = k as u64;
-                    0
-                }
-                Answer::Refused(number, needed) => {
-                    *second = needed as u64;
-                    number as u64
-                }
-            }
+            session[0] = left.shown as u64;
+            tell(answer, second)
         }
     }
 }
@@ -233,23 +191,10 @@ pub extern "C" fn fissure_running(s: &[u8], session: &[u64], second: &mut u64) -
     let taken = take(s, session);
     let verdict = taken.answer;
     match verdict {
-        Verdict::Refused(number, fault) => {
-            *second = fault as u64;
-            number as u64
-        }
+        Verdict::Refused(number, place) => tell(Answer::Refused(number, place), second),
         Verdict::Accepted => {
             let held = taken.session;
-            let running = held.running();
-            match running {
-                Answer::Gives(left) => {
-                    *second = left as u64;
-                    0
-                }
-                Answer::Refused(number, at) => {
-                    *second = at as u64;
-                    number as u64
-                }
-            }
+            tell(held.running(), second)
         }
     }
 }

@@ -6,6 +6,8 @@ use Rattle.sheet.specs.Returned.{verdict}
 use Rattle.fissures_c.proofs.Stepped.{fits, not-started, started}
 use Rattle.fissures_c.proofs.fissure_open.Statement.{statement}
 use Rattle.fissures_c.proofs.fissure_open.Tie as tie
+use Rattle.fissures_c.proofs.take.Reads as take-reads
+use Rattle.fissures_c.proofs.tell.Reads as tell-reads
 
 take-requires : tie.Need-take-requires
 take-requires c κs = search needs
@@ -13,8 +15,8 @@ take-requires c κs = search needs
 enum-known-verdict : tie.Need-enum-known-verdict
 enum-known-verdict c = search needs
 
-cast-result : tie.Need-cast-result
-cast-result c = search needs
+tell-requires : tie.Need-tell-requires
+tell-requires c κs = search needs
 
 enum-told : tie.Need-enum-told
 enum-told c = search needs
@@ -25,21 +27,24 @@ slice-write-session c =
     let f = fits (z .s .now) (z .session .now) (sym (c .before .before .take .ensures .answer) ∙ ap verdict (c .enum-told .given .1)) in
     omega (arith, f .room)
 
+tell-requires-2 : tie.Need-tell-requires-2
+tell-requires-2 c κs = search needs
+
 same-length : tie.Need-same-length
 same-length c = search needs
 
 returns : tie.Need-returns
 returns c =
-    let z = c .before .before .before .before .before .before .before .args in
-    not-started (z .s .now) (z .session .now) (sym (c .before .before .before .take .ensures .answer) ∙ ap verdict (c .before .verdict .given .1))
+    let z = c .before .before .before .before .before .before .before .before .before .args in
+    not-started (z .s .now) (z .session .now) (c .tell .ensures) (sym (c .before .before .before .before .before .take .ensures .answer) ∙ ap verdict (c .before .before .before .verdict .given .1))
 
 same-length-2 : tie.Need-same-length-2
 same-length-2 c = search needs
 
 returns-2 : tie.Need-returns-2
 returns-2 c =
-    let z = c .before .before .before .before .before .before .args in
-    started (z .s .now) (z .session .now) (sym (c .before .before .take .ensures .answer) ∙ ap verdict (c .enum-told .given .1))
+    let z = c .before .before .before .before .before .before .before .before .args in
+    started (z .s .now) (z .session .now) (c .tell2 .ensures) (sym (c .before .before .before .before .take .ensures .answer) ∙ ap verdict (c .before .before .enum-told .given .1))
 
 pub fissure-open-spec : {M : Type 1} → statement M
 fissure-open-spec =
@@ -47,9 +52,10 @@ fissure-open-spec =
     (tie.spec
     take-requires
     enum-known-verdict
-    cast-result
+    tell-requires
     enum-told
     slice-write-session
+    tell-requires-2
     same-length
     returns
     same-length-2
