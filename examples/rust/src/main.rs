@@ -1,7 +1,7 @@
 //! Reads a sheet from standard input and prints its roll, or its refusal, with the proved library:
 //! what program `roll` prints. From the repository's root:
 //!   rt staticlib fissures_c
-//!   cargo run --release --offline --manifest-path examples/rust/Cargo.toml < examples/A.sheet
+//!   cargo run --release --offline -p roll < examples/A.sheet
 
 use fissures::{GridRoll, Refusal, LONGEST_ROLL, ROW};
 use std::io::{stdin, Read, Result};
