@@ -106,10 +106,7 @@ pub fn cells_of(track: &Track, end: Fraction, figure: u64) -> Vec<Cell> {
 }
 
 /// The tracks of an accepted sheet, each with its exact end.
-fn traces<'a>(
-    records: &'a Records,
-    rows: &'a [Row],
-) -> impl Iterator<Item = (&'a Track, Fraction)> {
+fn traces<'a>(records: &'a Records, rows: &'a [Row]) -> impl Iterator<Item = (&'a Track, Fraction)> {
     let end_of = |track: &Track| rows.iter().find(|row| row.id == track.id).map(|row| row.time);
     records.tracks.iter().map(move |track| (track, end_of(track).expect("a row for each track")))
 }
@@ -128,8 +125,7 @@ pub fn counts(records: &Records, rows: &[Row]) -> [usize; 6] {
 pub fn ids_in(records: &Records, rows: &[Row], figure: u64, cell: Cell) -> BTreeSet<u16> {
     let has_point = |(track, end): &(&Track, Fraction)| {
         let side = 4096 / figure;
-        times_in_column(track, *end, side, cell.column)
-            .is_some_and(|times| also_in_row(times, track, side, cell.row))
+        times_in_column(track, *end, side, cell.column).is_some_and(|times| also_in_row(times, track, side, cell.row))
     };
     traces(records, rows).filter(has_point).map(|(track, _)| track.id).collect()
 }

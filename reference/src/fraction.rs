@@ -94,9 +94,6 @@ impl Sub for Fraction {
 impl Mul for Fraction {
     type Output = Fraction;
     fn mul(self, other: Fraction) -> Fraction {
-        Fraction {
-            numerator: self.numerator * other.numerator,
-            denominator: self.denominator * other.denominator,
-        }
+        Fraction { numerator: self.numerator * other.numerator, denominator: self.denominator * other.denominator }
     }
 }

@@ -179,16 +179,13 @@ fn events_of(index: usize, records: &Records) -> Vec<Event> {
 
 /// The roll of an accepted sheet, by time and then by id (SHEETS 5.5).
 pub fn roll(records: &Records) -> Vec<Row> {
-    let mut events: Vec<Event> =
-        (0..records.tracks.len()).flat_map(|index| events_of(index, records)).collect();
+    let mut events: Vec<Event> = (0..records.tracks.len()).flat_map(|index| events_of(index, records)).collect();
     events.sort_unstable();
     let mut ended: Vec<Option<Fraction>> = vec![None; records.tracks.len()];
     let mut rows = Vec::with_capacity(records.tracks.len());
     for Event { time, index, cause, .. } in events {
         let counts = match cause {
-            Cause::Track { index: other, reached, .. } => {
-                ended[other].is_none_or(|end| end >= reached)
-            }
+            Cause::Track { index: other, reached, .. } => ended[other].is_none_or(|end| end >= reached),
             Cause::Wall { .. } | Cause::Edge => true,
         };
         if ended[index].is_none() && counts {

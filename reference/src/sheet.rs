@@ -123,14 +123,12 @@ impl Command {
     fn parse(rest: &[u8]) -> Result<Command, u8> {
         match rest {
             [0, ..] => Ok(Command::End),
-            [1, operands @ ..] => operands
-                .first_chunk()
-                .map(|operands| Command::Track(Track::from_operands(operands)))
-                .ok_or(CUT_SHORT),
-            [2, operands @ ..] => operands
-                .first_chunk()
-                .map(|operands| Command::Wall(Wall::from_operands(operands)))
-                .ok_or(CUT_SHORT),
+            [1, operands @ ..] => {
+                operands.first_chunk().map(|operands| Command::Track(Track::from_operands(operands))).ok_or(CUT_SHORT)
+            }
+            [2, operands @ ..] => {
+                operands.first_chunk().map(|operands| Command::Wall(Wall::from_operands(operands))).ok_or(CUT_SHORT)
+            }
             [_, ..] => Err(UNKNOWN_COMMAND),
             [] => Err(CUT_SHORT),
         }

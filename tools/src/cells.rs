@@ -48,12 +48,8 @@ impl Times {
         let times = match speed {
             0 if low <= 0 && 0 < high => self,
             0 => return None,
-            1.. => self
-                .after(Fraction::new(low, speed), true)
-                .before(Fraction::new(high, speed), false),
-            _ => self
-                .after(Fraction::new(high, speed), false)
-                .before(Fraction::new(low, speed), true),
+            1.. => self.after(Fraction::new(low, speed), true).before(Fraction::new(high, speed), false),
+            _ => self.after(Fraction::new(high, speed), false).before(Fraction::new(low, speed), true),
         };
         times.any().then_some(times)
     }

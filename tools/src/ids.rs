@@ -35,11 +35,7 @@ const ASLANT: [Point; 4] = [(1, -1), (-1, -1), (1, 1), (-1, 1)];
 /// The ways from a start: behind it, on the axis of the greater speed; then to its sides.
 fn beside(track: &Track) -> [Point; 3] {
     let (vx, vy) = (i64::from(track.vx), i64::from(track.vy));
-    let [behind, side] = if vx.abs() > vy.abs() {
-        [(-vx.signum(), 0), (0, -1)]
-    } else {
-        [(0, vy.signum()), (-1, 0)]
-    };
+    let [behind, side] = if vx.abs() > vy.abs() { [(-vx.signum(), 0), (0, -1)] } else { [(0, vy.signum()), (-1, 0)] };
     [behind, side, (-side.0, -side.1)]
 }
 
@@ -69,12 +65,7 @@ impl Area {
 
     /// The area and all between it and a point.
     fn up_to(&self, (x, y): Point) -> Area {
-        Area {
-            left: self.left.min(x),
-            top: self.top.min(y),
-            right: self.right.max(x),
-            bottom: self.bottom.max(y),
-        }
+        Area { left: self.left.min(x), top: self.top.min(y), right: self.right.max(x), bottom: self.bottom.max(y) }
     }
 
     fn meets(&self, other: &Area) -> bool {

@@ -74,9 +74,8 @@ fn as_wall(command: &Command) -> Option<Wall> {
 /// Lower left and upper right corners of the shaded cells.
 fn corners(shaded: &BTreeSet<(u16, u16)>, figure: Option<u16>) -> Vec<(i64, i64)> {
     let side = cells::side(figure.unwrap_or(1));
-    let both = |&(column, row): &(u16, u16)| {
-        [(column, row), (column + 1, row + 1)].map(|(x, y)| in_64ths(x * side, y * side))
-    };
+    let both =
+        |&(column, row): &(u16, u16)| [(column, row), (column + 1, row + 1)].map(|(x, y)| in_64ths(x * side, y * side));
     shaded.iter().flat_map(both).collect()
 }
 

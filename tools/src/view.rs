@@ -43,13 +43,7 @@ impl View {
             0 => ALONE,
             extent => extent.max(64) / 14,
         };
-        View {
-            left: left - margin,
-            bottom: bottom - margin,
-            right: right + margin,
-            top: top + margin,
-        }
-        .widened()
+        View { left: left - margin, bottom: bottom - margin, right: right + margin, top: top + margin }.widened()
     }
 
     /// The view with its shorter side, and a side of no length, made long enough.

@@ -42,10 +42,7 @@ fn wrong_lines_are_named() {
         ("track -1 at 0 0 speed 1 1", "line 1: id: -1 is not in 0 to 65535"),
         ("track 1 at 0 0 speed 1 128", "line 1: vy: 128 is not in -128 to 127"),
         ("track 1 at 0 0 speed -129 1", "line 1: vx: -129 is not in -128 to 127"),
-        (
-            "# a\n\nwall 1 from 1 2 to 3 99999999999999999999",
-            "line 3: by: 99999999999999999999 is not in 0 to 65535",
-        ),
+        ("# a\n\nwall 1 from 1 2 to 3 99999999999999999999", "line 3: by: 99999999999999999999 is not in 0 to 65535"),
         ("track 1 at 0x1 0 speed 1 1", "line 1: x: '0x1' is not a decimal number"),
         ("track 1 at +1 0 speed 1 1", "line 1: x: '+1' is not a decimal number"),
         ("track 1 at 0 0 speed 1", "line 1: a track is written: track ID at X Y speed VX VY"),

@@ -73,8 +73,7 @@ fn view_leaves_out_what_it_does_not_show() {
 
 #[test]
 fn notes_stand_in_the_view() {
-    let note =
-        |x: &str| picture("A", &["--view", "0", "0", "300", "300", "--note", x, "90", "a <b & c"]);
+    let note = |x: &str| picture("A", &["--view", "0", "0", "300", "300", "--note", x, "90", "a <b & c"]);
     let words = ">a &lt;b &amp; c</text>";
     assert!(note("90").unwrap().contains(words) && !note("900").unwrap().contains(words));
     assert!(note("-1").unwrap_err().contains("usage"));
@@ -116,9 +115,7 @@ fn ids(svg: &str) -> Vec<[f64; 3]> {
     let group = svg.split("<g text-anchor").nth(1).unwrap().split("</g>").next().unwrap();
     let texts = group.lines().filter(|line| line.starts_with("<text"));
     let digits = |line: &str| line.split('>').nth(1).unwrap().len() - "</text".len();
-    texts
-        .map(|line| [number(line, " x=\""), number(line, " y=\""), 6.0 * digits(line) as f64])
-        .collect()
+    texts.map(|line| [number(line, " x=\""), number(line, " y=\""), 6.0 * digits(line) as f64]).collect()
 }
 
 #[test]

@@ -12,10 +12,7 @@ const ENOUGH: u64 = 5132;
 
 /// The number that some bytes stand for, low byte first.
 fn number(bytes: &[u8]) -> u64 {
-    bytes
-        .iter()
-        .rev()
-        .fold(0, |number, &byte| number << 8 | u64::from(byte))
+    bytes.iter().rev().fold(0, |number, &byte| number << 8 | u64::from(byte))
 }
 
 fn print_row(row: &[u8]) {

@@ -81,12 +81,5 @@ fn behind_the_counted() -> Vec<HandedIn> {
 }
 
 pub fn all() -> Vec<HandedIn> {
-    [
-        of_sheets(),
-        beyond_the_room(),
-        faulty_with_one_too_many(),
-        counts_and_lists(),
-        behind_the_counted(),
-    ]
-    .concat()
+    [of_sheets(), beyond_the_room(), faulty_with_one_too_many(), counts_and_lists(), behind_the_counted()].concat()
 }

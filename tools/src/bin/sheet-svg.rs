@@ -6,8 +6,7 @@ use sheet_tools::{cells, roll, sheet, trace};
 use std::io::{self, Write};
 use std::process::ExitCode;
 
-const USAGE: &str =
-    "usage: sheet-svg [--grid G] [--view AX AY BX BY] [--note X Y WORDS]… SHEET ROLL > PICTURE";
+const USAGE: &str = "usage: sheet-svg [--grid G] [--view AX AY BX BY] [--note X Y WORDS]… SHEET ROLL > PICTURE";
 
 fn main() -> ExitCode {
     match run() {
