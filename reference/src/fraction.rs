@@ -35,6 +35,11 @@ impl Fraction {
         self.numerator.div_euclid(self.denominator)
     }
 
+    /// This many 64ths, rounded down (SHEETS 5.4).
+    pub fn in_64ths(self) -> i128 {
+        (Fraction::whole(64) * self).floor()
+    }
+
     /// `self` / `other`, where `other` is not 0.
     pub fn over(self, other: Fraction) -> Fraction {
         Fraction::new(self.numerator * other.denominator, self.denominator * other.numerator)

@@ -51,13 +51,9 @@ impl Row {
     pub const LENGTH: usize = 29;
 
     fn new(track: &Track, time: Fraction, ending: Ending) -> Self {
-        let in_64ths = |start: u16, speed: i8| {
-            let exact = Fraction::whole(start) + Fraction::whole(speed) * time;
-            let rounded = (Fraction::whole(64) * exact).floor();
-            u32::try_from(rounded).expect("an end point inside the sheet")
-        };
-        let (x, y) = (in_64ths(track.x, track.vx), in_64ths(track.y, track.vy));
-        Row { id: track.id, ending, time, x, y }
+        let in_64ths = |place: Fraction| u32::try_from(place.in_64ths()).expect("an end point inside the sheet");
+        let (x, y) = track.at(time);
+        Row { id: track.id, ending, time, x: in_64ths(x), y: in_64ths(y) }
     }
 
     /// Numerator and denominator of the time (SHEETS 5.3).

@@ -1,10 +1,11 @@
 //! The ids of a picture: each beside its track's start or its wall's middle, clear of lines, marks
 //! and other ids; nowhere, if there is no such place. In hundredths of a pixel.
 
-use crate::fraction::Fraction;
-use crate::sheet::{Track, Wall};
+use crate::decimals::Decimals;
 use crate::trace::Trace;
 use crate::view::{in_64ths, View};
+use reference::fraction::Fraction;
+use reference::sheet::{Track, Wall};
 
 const FONT: i64 = 1000;
 const DIGIT: i64 = 640;
@@ -146,7 +147,7 @@ impl<'a> Drawing<'a> {
             return String::new();
         };
         self.areas.push(area);
-        let pixels = |value: i64| Fraction::new(value.into(), 100).pixels();
+        let pixels = |value: i64| Fraction::new(value, 100).pixels();
         // The base line is a third of the font below the middle.
         format!("<text x=\"{}\" y=\"{}\">{words}</text>\n", pixels(x), pixels(y + FONT / 3))
     }

@@ -15,7 +15,7 @@ const KINDS: [&str; 4] =
     ["1 ends at an earlier trace", "2 meets a tip, both end", "3 ends at a wall", "4 ends at the edge"];
 
 /// The legend, its left side at x pixels.
-pub fn draw(x: &str, shaded: Option<u16>) -> String {
+pub fn draw(x: &str, shaded: Option<u64>) -> String {
     let mut text = format!("<g transform=\"translate({x} 0)\">\n");
     for (index, (colour, words)) in COLOURS.iter().zip(KINDS).enumerate() {
         let mark = format!("<circle cx=\"17\" cy=\"0\" r=\"4\" fill=\"{colour}\"/>");

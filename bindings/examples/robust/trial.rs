@@ -157,7 +157,7 @@ impl<'a> Trial<'a> {
         match self.expected {
             Ok(sheet) if !sheet.rows.is_empty() && FIGURES.contains(&figure) && self.rng.one_in(2) => {
                 let track = self.rng.pick(&sheet.records.tracks);
-                let side = 4096 / figure;
+                let side = cells::side(figure);
                 Cell { figure, column: u64::from(track.x) / side, row: u64::from(track.y) / side }
             }
             _ => Cell { figure, column, row },

@@ -13,7 +13,7 @@ fn counted(ntracks: u64, nwalls: u64, commands: &[Command]) -> HandedIn {
 fn of_sheets() -> Vec<HandedIn> {
     let document = document::sheets().into_iter().map(|(_, sheet)| sheet);
     let sheets = document.chain(limits::sheets()).chain(together::sheets());
-    let records = sheets.filter_map(|sheet| whole_commands(&sheet)).map(|all| Records::of(&all));
+    let records = sheets.filter_map(|sheet| whole_commands(&sheet).ok()).map(|all| Records::of(&all));
     let has_room = |records: &Records| records.tracks.len().max(records.walls.len()) <= 256;
     records.filter(has_room).map(HandedIn::whole).collect()
 }
