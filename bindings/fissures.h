@@ -42,8 +42,16 @@ enum fissure_refusal {
     FISSURE_OUTSIDE_GRID = 14
 };
 
-/* Bytes of a row: id 2, kind 1, partner 2, time's numerator 8 and denominator 8, x and y in 64ths 4 each; all little-endian. */
+/* Bytes of a row, and where its fields begin: id of 2 bytes, kind 1, partner 2, the time's numerator 8 and denominator 8, x and y in 64ths
+ * 4 each; all little-endian (docs/SHEETS.md, 5.6). */
 #define FISSURE_ROW 29
+#define FISSURE_ROW_ID 0
+#define FISSURE_ROW_KIND 2
+#define FISSURE_ROW_PARTNER 3
+#define FISSURE_ROW_NUM 5
+#define FISSURE_ROW_DEN 13
+#define FISSURE_ROW_X 21
+#define FISSURE_ROW_Y 25
 /* Room for the roll of any sheet: 256 rows. For the ids of any cell: 256 of 2 bytes. For the ordered form of any sheet: 256 tracks of
  * 9 bytes, 256 walls of 11 and the end. */
 #define FISSURE_LONGEST_ROLL 7424

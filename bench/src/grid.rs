@@ -3,6 +3,7 @@
 
 use crate::causes::{at_track, at_wall, edge, write_row, Cause, NO_CAUSE};
 use crate::queue::{Key, Queue, NO_KEY};
+use reference::roll::Row;
 use reference::sheet::{Records, Track, Wall};
 
 const TIPS: usize = 256;
@@ -215,7 +216,7 @@ impl<'a> Run<'a> {
             } else if self.best[i].class == 0 && self.void(&self.best[i]) {
                 self.look_again(i);
             } else {
-                write_row(&mut out[29 * rows..29 * rows + 29], self.track(i), &self.best[i]);
+                write_row(&mut out[rows * Row::LENGTH..][..Row::LENGTH], self.track(i), &self.best[i]);
                 self.ended[i] = true;
                 rows += 1;
             }

@@ -1,6 +1,7 @@
 //! The plain run's own algorithm in Rust, in machine words: chronological selection over all pairs, for the ratio of speeds.
 
 use crate::causes::{at_track, at_wall, edge, write_row, Cause};
+use reference::roll::Row;
 use reference::sheet::{Records, Track};
 
 fn of_walls(records: &Records, a: &Track) -> Cause {
@@ -39,7 +40,7 @@ pub fn roll(records: &Records, out: &mut [u8]) {
         let running = (0..tracks.len()).filter(|&i| !ended[i]);
         let next = running.min_by(|&i, &j| best[i].at.order(best[j].at).then(tracks[i].id.cmp(&tracks[j].id)));
         let i = next.expect("a running tip");
-        write_row(&mut out[29 * k..29 * k + 29], &tracks[i], &best[i]);
+        write_row(&mut out[k * Row::LENGTH..][..Row::LENGTH], &tracks[i], &best[i]);
         ended[i] = true;
     }
 }

@@ -1,81 +1,19 @@
-//! The proved library (crates/fissures_c) behind safe functions; examples/rust is a whole program over them. Only this file and the guard
-//! pages of `robust` have `unsafe` code.
+//! The proved library (crates/fissures_c) behind safe functions; examples/rust is a whole program over them. Only the calls here and the
+//! guard pages of `robust` are `unsafe` code.
 
-mod c {
-    extern "C" {
-        pub fn fissure_check(sheet: *const u8, length: usize, second: &mut u64) -> u64;
-        pub fn fissure_order(sheet: *const u8, length: usize, out: *mut u8, room: usize, second: &mut u64) -> u64;
-        pub fn fissure_plain(sheet: *const u8, length: usize, out: *mut u8, room: usize, second: &mut u64) -> u64;
-        pub fn fissure_grid(
-            sheet: *const u8,
-            length: usize,
-            figure: u64,
-            out: *mut u8,
-            room: usize,
-            second: &mut u64,
-            cells: &mut u64,
-        ) -> u64;
-        pub fn fissure_cells(
-            sheet: *const u8,
-            length: usize,
-            figure: u64,
-            column: u64,
-            row: u64,
-            out: *mut u8,
-            room: usize,
-            second: &mut u64,
-        ) -> u64;
-        pub fn fissure_open(
-            sheet: *const u8,
-            length: usize,
-            session: *mut u64,
-            numbers: usize,
-            second: &mut u64,
-        ) -> u64;
-        pub fn fissure_advance(
-            sheet: *const u8,
-            length: usize,
-            session: *mut u64,
-            numbers: usize,
-            n: u64,
-            out: *mut u8,
-            room: usize,
-            second: &mut u64,
-        ) -> u64;
-        pub fn fissure_reset(
-            sheet: *const u8,
-            length: usize,
-            session: *mut u64,
-            numbers: usize,
-            second: &mut u64,
-        ) -> u64;
-        pub fn fissure_running(
-            sheet: *const u8,
-            length: usize,
-            session: *const u64,
-            numbers: usize,
-            second: &mut u64,
-        ) -> u64;
-        pub fn fissure_name(
-            tracks: *const u8,
-            tracks_length: usize,
-            walls: *const u8,
-            walls_length: usize,
-            kind: u64,
-            partner: u64,
-            list: &mut u64,
-            start: &mut u64,
-            size: &mut u64,
-        );
-    }
-}
+mod c;
+mod refusal;
+mod row;
 
-/// A line of the table of refusals (SHEETS 3.1), with the place, length or figure that goes with it.
-#[derive(Clone, Copy, Debug, PartialEq, Eq)]
-pub struct Refusal {
-    pub number: u64,
-    pub place: u64,
-}
+pub use refusal::Refusal;
+pub use row::{Row, ROW};
+
+/// Room for the roll of any sheet: 256 rows.
+pub const LONGEST_ROLL: usize = 256 * ROW;
+/// Room for the ids of any cell: 256 of 2 bytes.
+pub const LONGEST_CELL: usize = 256 * 2;
+/// Room for the ordered form of any sheet: 256 tracks, 256 walls and the end.
+pub const LONGEST_SHEET: usize = 256 * 9 + 256 * 11 + 1;
 
 /// What an accepted call of the grid run gives.
 #[derive(Clone, Copy, Debug, PartialEq, Eq)]
@@ -93,58 +31,56 @@ pub struct Cell {
     pub row: u64,
 }
 
-/// Bytes of a row: id 2, kind 1, partner 2, time's numerator 8 and denominator 8, x and y in 64ths 4 each; all little-endian.
-pub const ROW: usize = 29;
-/// Room for the roll of any sheet.
-pub const LONGEST_ROLL: usize = 256 * ROW;
-
 /// No count of cells.
 const UNTOUCHED: u64 = u64::MAX;
 
-fn answer(number: u64, second: u64) -> Result<usize, Refusal> {
-    match number {
+/// Makes a call, which stores its second number and returns 0 or the number of its refusal (SHEETS 11.1).
+fn answer(call: impl FnOnce(&mut u64) -> u64) -> Result<usize, Refusal> {
+    let mut second = 0;
+    match call(&mut second) {
         0 => Ok(second as usize),
-        _ => Err(Refusal { number, place: second }),
+        number => Err(Refusal { number, place: second }),
     }
 }
 
 /// Whether the sheet's bytes are accepted.
 pub fn check(sheet: &[u8]) -> Result<(), Refusal> {
-    let mut second = 0;
-    let number = unsafe { c::fissure_check(sheet.as_ptr(), sheet.len(), &mut second) };
-    answer(number, second).map(|_| ())
+    // SAFETY: `sheet` is a slice, `second` is borrowed mutably.
+    answer(|second| unsafe { c::fissure_check(sheet.as_ptr(), sheet.len(), second) }).map(|_| ())
 }
 
 /// Writes the sheet's ordered form and gives its length.
 pub fn order(sheet: &[u8], out: &mut [u8]) -> Result<usize, Refusal> {
-    let mut second = 0;
-    let number = unsafe { c::fissure_order(sheet.as_ptr(), sheet.len(), out.as_mut_ptr(), out.len(), &mut second) };
-    answer(number, second)
+    let (room, out) = (out.len(), out.as_mut_ptr());
+    // SAFETY: `sheet` and `out` are slices, `out` and `second` are borrowed mutably.
+    answer(|second| unsafe { c::fissure_order(sheet.as_ptr(), sheet.len(), out, room, second) })
 }
 
 /// Writes the sheet's roll, by the plain run, and gives the number of rows.
 pub fn plain(sheet: &[u8], out: &mut [u8]) -> Result<usize, Refusal> {
-    let mut second = 0;
-    let number = unsafe { c::fissure_plain(sheet.as_ptr(), sheet.len(), out.as_mut_ptr(), out.len(), &mut second) };
-    answer(number, second)
+    let (room, out) = (out.len(), out.as_mut_ptr());
+    // SAFETY: `sheet` and `out` are slices, `out` and `second` are borrowed mutably.
+    answer(|second| unsafe { c::fissure_plain(sheet.as_ptr(), sheet.len(), out, room, second) })
 }
 
 /// Writes the sheet's roll, by the grid run of the figure.
 pub fn grid(sheet: &[u8], figure: u64, out: &mut [u8]) -> Result<GridRoll, Refusal> {
-    let (mut second, mut cells) = (0, UNTOUCHED);
+    let mut cells = UNTOUCHED;
     let (room, out) = (out.len(), out.as_mut_ptr());
-    let number = unsafe { c::fissure_grid(sheet.as_ptr(), sheet.len(), figure, out, room, &mut second, &mut cells) };
-    assert!(number == 0 || cells == UNTOUCHED, "a refused call leaves the count as it came");
-    answer(number, second).map(|rows| GridRoll { rows, cells })
+    let rows = answer(|second| {
+        // SAFETY: `sheet` and `out` are slices; `out`, `second` and `cells` are borrowed mutably.
+        unsafe { c::fissure_grid(sheet.as_ptr(), sheet.len(), figure, out, room, second, &mut cells) }
+    });
+    assert!(rows.is_ok() || cells == UNTOUCHED, "a refused call leaves the count as it came");
+    rows.map(|rows| GridRoll { rows, cells })
 }
 
 /// Writes the ids of the tracks with a point in the cell, 2 bytes each in no promised order, and gives their number.
 pub fn cells(sheet: &[u8], cell: Cell, out: &mut [u8]) -> Result<usize, Refusal> {
-    let mut second = 0;
     let Cell { figure, column, row } = cell;
     let (room, out) = (out.len(), out.as_mut_ptr());
-    let number = unsafe { c::fissure_cells(sheet.as_ptr(), sheet.len(), figure, column, row, out, room, &mut second) };
-    answer(number, second)
+    // SAFETY: `sheet` and `out` are slices, `out` and `second` are borrowed mutably.
+    answer(|second| unsafe { c::fissure_cells(sheet.as_ptr(), sheet.len(), figure, column, row, out, room, second) })
 }
 
 /// A session as a lent slice of numbers, of which the first `SIZE` are the session and any behind them stay as they are.
@@ -156,36 +92,32 @@ pub mod numbers {
 
     /// No row shown.
     pub fn open(sheet: &[u8], session: &mut [u64]) -> Result<usize, Refusal> {
-        let mut second = 0;
         let (numbers, session) = (session.len(), session.as_mut_ptr());
-        let number = unsafe { c::fissure_open(sheet.as_ptr(), sheet.len(), session, numbers, &mut second) };
-        answer(number, second)
+        // SAFETY: `sheet` and `session` are slices, `session` and `second` are borrowed mutably.
+        answer(|second| unsafe { c::fissure_open(sheet.as_ptr(), sheet.len(), session, numbers, second) })
     }
 
     /// Writes the next n rows, or those left if fewer, and gives their number.
     pub fn advance(sheet: &[u8], session: &mut [u64], n: u64, out: &mut [u8]) -> Result<usize, Refusal> {
-        let mut second = 0;
         let (length, sheet) = (sheet.len(), sheet.as_ptr());
         let (numbers, session) = (session.len(), session.as_mut_ptr());
         let (room, out) = (out.len(), out.as_mut_ptr());
-        let number = unsafe { c::fissure_advance(sheet, length, session, numbers, n, out, room, &mut second) };
-        answer(number, second)
+        // SAFETY: `sheet`, `session` and `out` are slices; `session`, `out` and `second` are borrowed mutably.
+        answer(|second| unsafe { c::fissure_advance(sheet, length, session, numbers, n, out, room, second) })
     }
 
     /// No row shown.
     pub fn reset(sheet: &[u8], session: &mut [u64]) -> Result<usize, Refusal> {
-        let mut second = 0;
         let (numbers, session) = (session.len(), session.as_mut_ptr());
-        let number = unsafe { c::fissure_reset(sheet.as_ptr(), sheet.len(), session, numbers, &mut second) };
-        answer(number, second)
+        // SAFETY: `sheet` and `session` are slices, `session` and `second` are borrowed mutably.
+        answer(|second| unsafe { c::fissure_reset(sheet.as_ptr(), sheet.len(), session, numbers, second) })
     }
 
     /// The number of rows not yet shown.
     pub fn running(sheet: &[u8], session: &[u64]) -> Result<usize, Refusal> {
-        let mut second = 0;
         let (numbers, session) = (session.len(), session.as_ptr());
-        let number = unsafe { c::fissure_running(sheet.as_ptr(), sheet.len(), session, numbers, &mut second) };
-        answer(number, second)
+        // SAFETY: `sheet` and `session` are slices, `second` is borrowed mutably.
+        answer(|second| unsafe { c::fissure_running(sheet.as_ptr(), sheet.len(), session, numbers, second) })
     }
 }
 
@@ -229,16 +161,22 @@ impl<'a> Session<'a> {
 /// Where a name lies.
 #[derive(Clone, Copy, Debug, PartialEq, Eq)]
 pub struct Place {
-    /// 1 the track list, 2 the wall list.
+    /// `TRACKS` or `WALLS`.
     pub list: u64,
     pub start: usize,
     pub size: usize,
+}
+
+impl Place {
+    pub const TRACKS: u64 = 1;
+    pub const WALLS: u64 = 2;
 }
 
 /// Where the name of a row's partner lies: for kinds 1 and 2 in the track list, for 3 in the wall list. Where there is none, the empty part
 /// at the start of the track list.
 pub fn name_place(tracks: &[u8], walls: &[u8], kind: u64, partner: u64) -> Place {
     let (mut list, mut start, mut size) = (0, 0, 0);
+    // SAFETY: `tracks` and `walls` are slices; `list`, `start` and `size` are borrowed mutably.
     unsafe {
         c::fissure_name(
             tracks.as_ptr(),
@@ -258,6 +196,6 @@ pub fn name_place(tracks: &[u8], walls: &[u8], kind: u64, partner: u64) -> Place
 /// The name of a row's partner, as a part of one of the two lists.
 pub fn name<'a>(tracks: &'a [u8], walls: &'a [u8], kind: u64, partner: u64) -> &'a [u8] {
     let Place { list, start, size } = name_place(tracks, walls, kind, partner);
-    let list = if list == 1 { tracks } else { walls };
+    let list = if list == Place::TRACKS { tracks } else { walls };
     &list[start..start + size]
 }

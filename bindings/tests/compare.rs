@@ -1,7 +1,7 @@
 //! Each function of the proved library against the reference implementation, on sheets valid and damaged, long and short, with buffers
 //! that are too short by one byte, exact, and longer than needed.
 
-use fissures::{numbers, Cell, GridRoll, Place, Session, ROW};
+use fissures::{numbers, Cell, GridRoll, Place, Row, Session, LONGEST_ROLL, ROW};
 use reference::cells::{self, FIGURES};
 use reference::made_up;
 use reference::refusal::{Refusal, OUTPUT_TOO_SHORT};
@@ -75,6 +75,23 @@ fn plain() {
     for sheet in sheets(3) {
         let expected = read(&sheet).map(|records| roll(&records)).map(|rows| (rows.len(), roll_bytes(&rows)));
         compare(&expected, |out| fissures::plain(&sheet, out));
+    }
+}
+
+#[test]
+fn rows_read_back() {
+    for sheet in sheets(3) {
+        let Ok(records) = read(&sheet) else { continue };
+        let mut out = buffer(LONGEST_ROLL);
+        let count = fissures::plain(&sheet, &mut out).expect("room for any roll");
+        let rows = roll(&records);
+        assert_eq!(count, rows.len());
+        for (row, expected) in Row::all(&out).zip(&rows) {
+            assert_eq!((row.id(), row.time()), (expected.id, expected.time_in_lowest_terms()));
+            assert_eq!((row.kind(), row.partner()), (expected.ending.kind(), expected.ending.partner()));
+            assert_eq!((row.x(), row.y()), (expected.x, expected.y));
+            assert_eq!(row.to_string(), expected.to_string());
+        }
     }
 }
 
@@ -199,7 +216,7 @@ fn step_by_step() {
         let Ok(mut session) = Session::open(&sheet) else { continue };
         let rows = roll(&read(&sheet).expect("accepted"));
         for _ in 0..2 {
-            let (mut shown, mut out) = (Vec::<u8>::new(), vec![0; 256 * ROW]);
+            let (mut shown, mut out) = (Vec::<u8>::new(), vec![0; LONGEST_ROLL]);
             loop {
                 assert_eq!(session.running(), Ok(rows.len() - shown.len() / ROW));
                 let count = session.advance(1 + rng.below(9) as u64, &mut out).expect("room for any roll");
@@ -229,11 +246,11 @@ fn find(list: &[u8], id: u16) -> Option<(usize, usize)> {
 }
 
 fn place(tracks: &[u8], walls: &[u8], kind: u64, partner: u64) -> Place {
-    let (number, list) = if kind == 3 { (2, walls) } else { (1, tracks) };
+    let (number, list) = if kind == 3 { (Place::WALLS, walls) } else { (Place::TRACKS, tracks) };
     let found = u16::try_from(partner).ok().filter(|_| (1..=3).contains(&kind)).and_then(|id| find(list, id));
     match found {
         Some((start, size)) => Place { list: number, start, size },
-        None => Place { list: 1, start: 0, size: 0 },
+        None => Place { list: Place::TRACKS, start: 0, size: 0 },
     }
 }
 
@@ -262,7 +279,7 @@ fn names() {
             let partner = rng.pick(&[0, 1, 2, 3, 256, 257, 65535, 65536, 65537, 1 << 32, u64::MAX]);
             let expected = place(&tracks, &walls, kind, partner);
             assert_eq!(fissures::name_place(&tracks, &walls, kind, partner), expected);
-            let list = if expected.list == 1 { &tracks } else { &walls };
+            let list = if expected.list == Place::TRACKS { &tracks } else { &walls };
             let part = &list[expected.start..expected.start + expected.size];
             let name = fissures::name(&tracks, &walls, kind, partner);
             assert_eq!((name, name.as_ptr()), (part, part.as_ptr()));

@@ -59,6 +59,7 @@ fn desk_in_c() {
 
 #[test]
 fn in_rust() {
-    run(env!("CARGO"), "build --release --offline --manifest-path examples/rust/Cargo.toml").expect("cargo");
-    prints_the_examples("examples/rust/target/release/roll");
+    run(env!("CARGO"), "build --release --offline -p roll").expect("cargo");
+    let built = Path::new(env!("CARGO_TARGET_TMPDIR")).with_file_name("release");
+    prints_the_examples(built.join("roll").to_str().unwrap());
 }

@@ -26,11 +26,12 @@ static uint64_t number_at(const uint8_t *bytes, int width) {
 }
 
 static void print_row(const uint8_t *row) {
-    uint64_t list, start, size, kind = row[2];
-    fissure_name(track_names, sizeof track_names - 1, wall_names, sizeof wall_names - 1, kind, number_at(row + 3, 2), &list, &start, &size);
+    uint64_t list, start, size;
+    uint64_t kind = row[FISSURE_ROW_KIND], partner = number_at(row + FISSURE_ROW_PARTNER, 2);
+    fissure_name(track_names, sizeof track_names - 1, wall_names, sizeof wall_names - 1, kind, partner, &list, &start, &size);
     const uint8_t *name = (list == FISSURE_TRACKS ? track_names : wall_names) + start;
-    printf("track %" PRIu64 " ended %s", number_at(row, 2), endings[kind]);
-    if (kind < 4) printf(" %" PRIu64, number_at(row + 3, 2));
+    printf("track %" PRIu64 " ended %s", number_at(row + FISSURE_ROW_ID, 2), endings[kind]);
+    if (kind < 4) printf(" %" PRIu64, partner);
     if (size > 0) printf(" (%.*s)", (int)size, (const char *)name);
     printf("\n");
 }

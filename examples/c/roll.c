@@ -20,11 +20,11 @@ static uint64_t number_at(const uint8_t *bytes, int width) {
     return number;
 }
 
-/* id, kind, partner, time, x and y */
 static void print_row(const uint8_t *row) {
-    printf("%" PRIu64 " %" PRIu64 " %" PRIu64 " ", number_at(row, 2), number_at(row + 2, 1), number_at(row + 3, 2));
-    printf("%" PRIu64 "/%" PRIu64 " ", number_at(row + 5, 8), number_at(row + 13, 8));
-    printf("%" PRIu64 " %" PRIu64 "\n", number_at(row + 21, 4), number_at(row + 25, 4));
+    printf("%" PRIu64 " %d ", number_at(row + FISSURE_ROW_ID, 2), row[FISSURE_ROW_KIND]);
+    printf("%" PRIu64 " ", number_at(row + FISSURE_ROW_PARTNER, 2));
+    printf("%" PRIu64 "/%" PRIu64 " ", number_at(row + FISSURE_ROW_NUM, 8), number_at(row + FISSURE_ROW_DEN, 8));
+    printf("%" PRIu64 " %" PRIu64 "\n", number_at(row + FISSURE_ROW_X, 4), number_at(row + FISSURE_ROW_Y, 4));
 }
 
 int main(void) {

@@ -12,6 +12,11 @@ use std::collections::BTreeSet;
 /// The grid figures (SHEETS 6.1).
 pub const FIGURES: [u64; 6] = [1, 2, 4, 8, 16, 32];
 
+/// The side of a cell.
+pub fn side(figure: u64) -> u64 {
+    4096 / figure
+}
+
 #[derive(Clone, Copy, Debug, PartialEq, Eq, PartialOrd, Ord)]
 pub struct Cell {
     pub column: u64,
@@ -95,7 +100,7 @@ fn also_in_row(times: Times, track: &Track, side: u64, row: u64) -> bool {
 
 /// All cells that hold a point of the trace, which goes to `end` (SHEETS 6.3).
 pub fn cells_of(track: &Track, end: Fraction, figure: u64) -> Vec<Cell> {
-    let side = 4096 / figure;
+    let side = side(figure);
     let mut cells = Vec::new();
     for column in 0..figure {
         let Some(times) = times_in_column(track, end, side, column) else { continue };
@@ -106,10 +111,7 @@ pub fn cells_of(track: &Track, end: Fraction, figure: u64) -> Vec<Cell> {
 }
 
 /// The tracks of an accepted sheet, each with its exact end.
-fn traces<'a>(
-    records: &'a Records,
-    rows: &'a [Row],
-) -> impl Iterator<Item = (&'a Track, Fraction)> {
+fn traces<'a>(records: &'a Records, rows: &'a [Row]) -> impl Iterator<Item = (&'a Track, Fraction)> {
     let end_of = |track: &Track| rows.iter().find(|row| row.id == track.id).map(|row| row.time);
     records.tracks.iter().map(move |track| (track, end_of(track).expect("a row for each track")))
 }
@@ -127,9 +129,8 @@ pub fn counts(records: &Records, rows: &[Row]) -> [usize; 6] {
 /// The ids of the tracks with a point in the cell (SHEETS 6.10).
 pub fn ids_in(records: &Records, rows: &[Row], figure: u64, cell: Cell) -> BTreeSet<u16> {
     let has_point = |(track, end): &(&Track, Fraction)| {
-        let side = 4096 / figure;
-        times_in_column(track, *end, side, cell.column)
-            .is_some_and(|times| also_in_row(times, track, side, cell.row))
+        let side = side(figure);
+        times_in_column(track, *end, side, cell.column).is_some_and(|times| also_in_row(times, track, side, cell.row))
     };
     traces(records, rows).filter(has_point).map(|(track, _)| track.id).collect()
 }

@@ -35,6 +35,11 @@ impl Fraction {
         self.numerator.div_euclid(self.denominator)
     }
 
+    /// This many 64ths, rounded down (SHEETS 5.4).
+    pub fn in_64ths(self) -> i128 {
+        (Fraction::whole(64) * self).floor()
+    }
+
     /// `self` / `other`, where `other` is not 0.
     pub fn over(self, other: Fraction) -> Fraction {
         Fraction::new(self.numerator * other.denominator, self.denominator * other.numerator)
@@ -94,9 +99,6 @@ impl Sub for Fraction {
 impl Mul for Fraction {
     type Output = Fraction;
     fn mul(self, other: Fraction) -> Fraction {
-        Fraction {
-            numerator: self.numerator * other.numerator,
-            denominator: self.denominator * other.denominator,
-        }
+        Fraction { numerator: self.numerator * other.numerator, denominator: self.denominator * other.denominator }
     }
 }

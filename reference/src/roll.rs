@@ -51,13 +51,9 @@ impl Row {
     pub const LENGTH: usize = 29;
 
     fn new(track: &Track, time: Fraction, ending: Ending) -> Self {
-        let in_64ths = |start: u16, speed: i8| {
-            let exact = Fraction::whole(start) + Fraction::whole(speed) * time;
-            let rounded = (Fraction::whole(64) * exact).floor();
-            u32::try_from(rounded).expect("an end point inside the sheet")
-        };
-        let (x, y) = (in_64ths(track.x, track.vx), in_64ths(track.y, track.vy));
-        Row { id: track.id, ending, time, x, y }
+        let in_64ths = |place: Fraction| u32::try_from(place.in_64ths()).expect("an end point inside the sheet");
+        let (x, y) = track.at(time);
+        Row { id: track.id, ending, time, x: in_64ths(x), y: in_64ths(y) }
     }
 
     /// Numerator and denominator of the time (SHEETS 5.3).
@@ -179,16 +175,13 @@ fn events_of(index: usize, records: &Records) -> Vec<Event> {
 
 /// The roll of an accepted sheet, by time and then by id (SHEETS 5.5).
 pub fn roll(records: &Records) -> Vec<Row> {
-    let mut events: Vec<Event> =
-        (0..records.tracks.len()).flat_map(|index| events_of(index, records)).collect();
+    let mut events: Vec<Event> = (0..records.tracks.len()).flat_map(|index| events_of(index, records)).collect();
     events.sort_unstable();
     let mut ended: Vec<Option<Fraction>> = vec![None; records.tracks.len()];
     let mut rows = Vec::with_capacity(records.tracks.len());
     for Event { time, index, cause, .. } in events {
         let counts = match cause {
-            Cause::Track { index: other, reached, .. } => {
-                ended[other].is_none_or(|end| end >= reached)
-            }
+            Cause::Track { index: other, reached, .. } => ended[other].is_none_or(|end| end >= reached),
             Cause::Wall { .. } | Cause::Edge => true,
         };
         if ended[index].is_none() && counts {

@@ -1,5 +1,6 @@
 //! Records, the reader, the check of handed-in records and the writer (SHEETS 2, 3).
 
+use crate::fraction::Fraction;
 use crate::plane::Vector;
 use crate::refusal::*;
 
@@ -48,6 +49,12 @@ impl Track {
 
     pub fn speed(&self) -> Vector {
         Vector::new(self.vx, self.vy)
+    }
+
+    /// Where the tip is at a time, if it has not ended (SHEETS 4.1).
+    pub fn at(&self, time: Fraction) -> (Fraction, Fraction) {
+        let along = |start: u16, speed: i8| Fraction::whole(start) + Fraction::whole(speed) * time;
+        (along(self.x, self.vx), along(self.y, self.vy))
     }
 
     pub fn to_bytes(self) -> [u8; Self::LENGTH] {
@@ -123,14 +130,12 @@ impl Command {
     fn parse(rest: &[u8]) -> Result<Command, u8> {
         match rest {
             [0, ..] => Ok(Command::End),
-            [1, operands @ ..] => operands
-                .first_chunk()
-                .map(|operands| Command::Track(Track::from_operands(operands)))
-                .ok_or(CUT_SHORT),
-            [2, operands @ ..] => operands
-                .first_chunk()
-                .map(|operands| Command::Wall(Wall::from_operands(operands)))
-                .ok_or(CUT_SHORT),
+            [1, operands @ ..] => {
+                operands.first_chunk().map(|operands| Command::Track(Track::from_operands(operands))).ok_or(CUT_SHORT)
+            }
+            [2, operands @ ..] => {
+                operands.first_chunk().map(|operands| Command::Wall(Wall::from_operands(operands))).ok_or(CUT_SHORT)
+            }
             [_, ..] => Err(UNKNOWN_COMMAND),
             [] => Err(CUT_SHORT),
         }
@@ -219,14 +224,13 @@ fn refuse_if(number: u8, broken: bool) -> Result<(), u8> {
     }
 }
 
-/// Reads a sheet, or gives its refusal (SHEETS 3.3).
-pub fn read(bytes: &[u8]) -> Result<Records, Refusal> {
-    let mut records = Records::default();
+/// Goes from command to command up to the end, for as long as `take` refuses none.
+fn scan(bytes: &[u8], mut take: impl FnMut(Command) -> Result<(), u8>) -> Result<(), Refusal> {
     let mut place = 0;
     loop {
         let refused = |number| Refusal { number, place };
         let command = Command::parse(&bytes[place..]).map_err(refused)?;
-        records.admit(command).map_err(refused)?;
+        take(command).map_err(refused)?;
         place += command.length();
         if command == Command::End {
             break;
@@ -235,22 +239,25 @@ pub fn read(bytes: &[u8]) -> Result<Records, Refusal> {
     if place < bytes.len() {
         return Err(Refusal { number: AFTER_END, place });
     }
+    Ok(())
+}
+
+/// Reads a sheet, or gives its refusal (SHEETS 3.3).
+pub fn read(bytes: &[u8]) -> Result<Records, Refusal> {
+    let mut records = Records::default();
+    scan(bytes, |command| records.admit(command))?;
     Ok(records)
 }
 
-/// The commands of a sheet, whether or not a sheet may hold them; none where they are not whole
-/// commands with one 00 behind them.
-pub fn whole_commands(bytes: &[u8]) -> Option<Vec<Command>> {
+/// The commands before the end, whether or not a sheet may hold them; 1, 2 or 3 where they are not whole commands with
+/// one 00 behind them.
+pub fn whole_commands(bytes: &[u8]) -> Result<Vec<Command>, Refusal> {
     let mut commands = Vec::new();
-    let mut rest = bytes;
-    loop {
-        let command = Command::parse(rest).ok()?;
-        rest = &rest[command.length()..];
-        if command == Command::End {
-            return rest.is_empty().then_some(commands);
-        }
-        commands.push(command);
-    }
+    scan(bytes, |command| {
+        commands.extend((command != Command::End).then_some(command));
+        Ok(())
+    })?;
+    Ok(commands)
 }
 
 /// Handed-in records as commands, tracks before walls, without the final 00.

@@ -148,8 +148,7 @@ fn listings_hold_each_trace_as_often_as_it_has_cells() {
         let records = read(&made_up::accepted(&mut rng)).expect("accepted");
         let rows = roll(&records);
         for figure in FIGURES {
-            let cells =
-                (0..figure).flat_map(|column| (0..figure).map(move |row| Cell { column, row }));
+            let cells = (0..figure).flat_map(|column| (0..figure).map(move |row| Cell { column, row }));
             let listed: usize = cells.map(|cell| ids_in(&records, &rows, figure, cell).len()).sum();
             assert_eq!(listed, count(&records, &rows, figure));
         }

@@ -51,9 +51,8 @@ fn nothing_counts_from_a_cut_entry_on() {
 fn a_cut_list_has_its_whole_entries() {
     let mut rng = Rng::new(6);
     for _ in 0..200 {
-        let entries: Vec<(u16, Vec<u8>)> = (0..rng.below(5))
-            .map(|_| (rng.below(3) as u16, vec![rng.draw() as u8; rng.below(4)]))
-            .collect();
+        let entries: Vec<(u16, Vec<u8>)> =
+            (0..rng.below(5)).map(|_| (rng.below(3) as u16, vec![rng.draw() as u8; rng.below(4)])).collect();
         let list = entries.iter().map(|(id, name)| entry(*id, name)).collect::<Vec<_>>().concat();
         for length in 0..=list.len() {
             for id in 0..4 {

@@ -83,11 +83,7 @@ fn earliest(tip: &Track, mover: Mover, first: bool) -> Option<Fraction> {
 fn mover_there(tip: &Track, time: Fraction, mover: Mover) -> Option<Fraction> {
     let (x, y) = at(tip.start(), tip.speed(), time);
     let Mover { start: q, speed: w, end } = mover;
-    let s = if w.x != 0 {
-        (x - whole(q.x)).over(whole(w.x))
-    } else {
-        (y - whole(q.y)).over(whole(w.y))
-    };
+    let s = if w.x != 0 { (x - whole(q.x)).over(whole(w.x)) } else { (y - whole(q.y)).over(whole(w.y)) };
     let there = at(q, w, s) == (x, y) && s >= Fraction::ZERO && s <= end;
     there.then_some(s)
 }
@@ -105,8 +101,7 @@ fn last_inside(tip: &Track) -> Fraction {
 
 fn other_tracks(records: &Records, tip: &Track, ends: &Ends) -> Vec<(u16, Mover)> {
     let others = records.tracks.iter().filter(|other| other.id != tip.id);
-    let mover =
-        |other: &Track| Mover { start: other.start(), speed: other.speed(), end: ends[&other.id] };
+    let mover = |other: &Track| Mover { start: other.start(), speed: other.speed(), end: ends[&other.id] };
     let mut movers: Vec<_> = others.map(|other| (other.id, mover(other))).collect();
     movers.sort_by_key(|(id, _)| *id);
     movers
@@ -114,8 +109,7 @@ fn other_tracks(records: &Records, tip: &Track, ends: &Ends) -> Vec<(u16, Mover)
 
 fn walls(records: &Records) -> Vec<(u16, Mover)> {
     let mover = |a: Vector, b: Vector| Mover { start: a, speed: b - a, end: Fraction::ONE };
-    let mut movers: Vec<_> =
-        records.walls.iter().map(|wall| (wall.id, mover(wall.a(), wall.b()))).collect();
+    let mut movers: Vec<_> = records.walls.iter().map(|wall| (wall.id, mover(wall.a(), wall.b()))).collect();
     movers.sort_by_key(|(id, _)| *id);
     movers
 }
@@ -131,8 +125,7 @@ fn by_the_rule(records: &Records, tip: &Track, ends: &Ends) -> (Fraction, Ending
         let s = mover_there(tip, time, *mover).filter(|s| *s <= time)?;
         Some(if s < time { Ending::Track(*id) } else { Ending::Meeting(*id) })
     };
-    let stops =
-        |(id, mover): &(u16, Mover)| mover_there(tip, time, *mover).map(|_| Ending::Wall(*id));
+    let stops = |(id, mover): &(u16, Mover)| mover_there(tip, time, *mover).map(|_| Ending::Wall(*id));
     let track = tracks.iter().find_map(blocks);
     (time, track.or_else(|| walls.iter().find_map(stops)).unwrap_or(Ending::Edge))
 }

@@ -12,10 +12,8 @@ fn all_sheets() -> Vec<Vec<u8>> {
 #[test]
 fn sheet_a_has_the_bytes_shown() {
     let shown = "01 01 00 64 00 64 00 0A 00 01 02 00 C8 00 32 00 00 0A 00";
-    let bytes: Vec<u8> = shown
-        .split(' ')
-        .map(|byte| u8::from_str_radix(byte, 16).expect("a byte in hexadecimal"))
-        .collect();
+    let bytes: Vec<u8> =
+        shown.split(' ').map(|byte| u8::from_str_radix(byte, 16).expect("a byte in hexadecimal")).collect();
     assert_eq!(document::sheet("A"), bytes);
 }
 
@@ -30,12 +28,7 @@ fn sheets_of_the_document_are_accepted_but_the_facing_one() {
 
 #[test]
 fn records_keep_their_order() {
-    let listed = [
-        track(9, 1, 2, 3, 4),
-        wall(8, 100, 5, 6, 7),
-        track(2, 4000, 256, -63, 63),
-        wall(0, 0, 0, 9, 255),
-    ];
+    let listed = [track(9, 1, 2, 3, 4), wall(8, 100, 5, 6, 7), track(2, 4000, 256, -63, 63), wall(0, 0, 0, 9, 255)];
     let records = read(&listing(listed)).expect("accepted");
     let again: Vec<_> = commands(&records.tracks, &records.walls).collect();
     assert_eq!(again, [listed[0], listed[2], listed[1], listed[3]]);

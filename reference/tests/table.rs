@@ -186,12 +186,7 @@ fn the_first_command_is_returned_whatever_its_number() {
 
 #[test]
 fn handed_in_records_are_refused_as_the_sheet_that_lists_them() {
-    let interleaved = [
-        wall(1, 30, 30, 30, 50),
-        track(1, 30, 40, 1, 0),
-        track(2, 50, 40, -1, 0),
-        wall(1, 7, 7, 7, 7),
-    ];
+    let interleaved = [wall(1, 30, 30, 30, 50), track(1, 30, 40, 1, 0), track(2, 50, 40, -1, 0), wall(1, 7, 7, 7, 7)];
     let tracks_first = [interleaved[1], interleaved[2], interleaved[0], interleaved[3]];
     let records = Records::of(&interleaved);
     let expected = Err(Refusal { number: 11, place: 9 });

@@ -1,10 +1,11 @@
 //! The ids of a picture: each beside its track's start or its wall's middle, clear of lines, marks
 //! and other ids; nowhere, if there is no such place. In hundredths of a pixel.
 
-use crate::fraction::Fraction;
-use crate::sheet::{Track, Wall};
+use crate::decimals::Decimals;
 use crate::trace::Trace;
 use crate::view::{in_64ths, View};
+use reference::fraction::Fraction;
+use reference::sheet::{Track, Wall};
 
 const FONT: i64 = 1000;
 const DIGIT: i64 = 640;
@@ -35,11 +36,7 @@ const ASLANT: [Point; 4] = [(1, -1), (-1, -1), (1, 1), (-1, 1)];
 /// The ways from a start: behind it, on the axis of the greater speed; then to its sides.
 fn beside(track: &Track) -> [Point; 3] {
     let (vx, vy) = (i64::from(track.vx), i64::from(track.vy));
-    let [behind, side] = if vx.abs() > vy.abs() {
-        [(-vx.signum(), 0), (0, -1)]
-    } else {
-        [(0, vy.signum()), (-1, 0)]
-    };
+    let [behind, side] = if vx.abs() > vy.abs() { [(-vx.signum(), 0), (0, -1)] } else { [(0, vy.signum()), (-1, 0)] };
     [behind, side, (-side.0, -side.1)]
 }
 
@@ -69,12 +66,7 @@ impl Area {
 
     /// The area and all between it and a point.
     fn up_to(&self, (x, y): Point) -> Area {
-        Area {
-            left: self.left.min(x),
-            top: self.top.min(y),
-            right: self.right.max(x),
-            bottom: self.bottom.max(y),
-        }
+        Area { left: self.left.min(x), top: self.top.min(y), right: self.right.max(x), bottom: self.bottom.max(y) }
     }
 
     fn meets(&self, other: &Area) -> bool {
@@ -155,7 +147,7 @@ impl<'a> Drawing<'a> {
             return String::new();
         };
         self.areas.push(area);
-        let pixels = |value: i64| Fraction::new(value.into(), 100).pixels();
+        let pixels = |value: i64| Fraction::new(value, 100).pixels();
         // The base line is a third of the font below the middle.
         format!("<text x=\"{}\" y=\"{}\">{words}</text>\n", pixels(x), pixels(y + FONT / 3))
     }

@@ -11,15 +11,11 @@ pub const OUTSIDE: &str = "#ececec";
 pub const TOUCHED: &str = "#fbeeb8";
 pub const GRID: &str = "#aaa";
 
-const KINDS: [&str; 4] = [
-    "1 ends at an earlier trace",
-    "2 meets a tip, both end",
-    "3 ends at a wall",
-    "4 ends at the edge",
-];
+const KINDS: [&str; 4] =
+    ["1 ends at an earlier trace", "2 meets a tip, both end", "3 ends at a wall", "4 ends at the edge"];
 
 /// The legend, its left side at x pixels.
-pub fn draw(x: &str, shaded: Option<u16>) -> String {
+pub fn draw(x: &str, shaded: Option<u64>) -> String {
     let mut text = format!("<g transform=\"translate({x} 0)\">\n");
     for (index, (colour, words)) in COLOURS.iter().zip(KINDS).enumerate() {
         let mark = format!("<circle cx=\"17\" cy=\"0\" r=\"4\" fill=\"{colour}\"/>");
@@ -46,9 +42,7 @@ fn started() -> String {
 }
 
 fn area(fill: &str, border: &str) -> String {
-    format!(
-        "<rect x=\"8\" y=\"-5\" width=\"18\" height=\"10\" fill=\"{fill}\" stroke=\"{border}\"/>"
-    )
+    format!("<rect x=\"8\" y=\"-5\" width=\"18\" height=\"10\" fill=\"{fill}\" stroke=\"{border}\"/>")
 }
 
 fn line(colour: &str, width: u8) -> String {

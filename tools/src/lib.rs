@@ -3,8 +3,7 @@
 
 #![forbid(unsafe_code)]
 
-pub mod cells;
-pub mod fraction;
+pub mod decimals;
 mod ids;
 pub mod legend;
 pub mod listing;

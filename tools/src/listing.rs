@@ -5,7 +5,7 @@
 //! wall 1 from 250 50 to 350 50
 //! ```
 
-use crate::sheet::{Command, Track, Wall};
+use reference::sheet::{Command, Track, Wall};
 
 /// The commands of a listing, or what is wrong and in which line.
 pub fn parse(listing: &[u8]) -> Result<Vec<Command>, String> {
@@ -71,6 +71,7 @@ pub fn print(commands: &[Command]) -> String {
 
 fn print_line(command: &Command) -> String {
     match command {
+        Command::End => String::new(),
         Command::Track(Track { id, x, y, vx, vy }) => {
             format!("track {id} at {x} {y} speed {vx} {vy}\n")
         }

@@ -1,20 +1,22 @@
 //! A sheet and its traces as SVG. Walls, traces and end points are in units of the sheet, turned
 //! so that y goes upwards; ids and the legend are in pixels.
 
-use crate::cells;
-use crate::fraction::Fraction;
+use crate::decimals::Decimals;
 use crate::ids;
 use crate::legend;
-use crate::sheet::{Command, Wall};
 use crate::trace::Trace;
 use crate::view::{in_64ths, View};
+use reference::cells::{side, Cell};
+use reference::fraction::Fraction;
+use reference::roll::Ending;
+use reference::sheet::Wall;
 use std::collections::BTreeSet;
 
 /// What the picture shows besides the traces and walls.
 #[derive(Clone, Debug, Default)]
 pub struct Options {
     /// The figure of the grid to draw.
-    pub grid: Option<u16>,
+    pub grid: Option<u64>,
     /// The part of the sheet to show, else all that is drawn.
     pub view: Option<View>,
     pub notes: Vec<Note>,
@@ -29,18 +31,14 @@ pub struct Note {
 }
 
 /// The picture.
-pub fn draw(commands: &[Command], traces: &[Trace], options: Options) -> String {
-    let walls: Vec<Wall> = commands.iter().filter_map(as_wall).collect();
-    let shaded: BTreeSet<(u16, u16)> = options
-        .grid
-        .iter()
-        .flat_map(|&figure| traces.iter().flat_map(move |trace| cells::touched(trace, figure)))
-        .collect();
+pub fn draw(walls: &[Wall], traces: &[Trace], options: Options) -> String {
+    let cells = |&figure: &u64| traces.iter().flat_map(move |trace| trace.cells(figure));
+    let shaded: BTreeSet<Cell> = options.grid.iter().flat_map(cells).collect();
     let corners = corners(&shaded, options.grid);
-    let view = options.view.unwrap_or_else(|| View::around(&points(&walls, traces, &corners)));
+    let view = options.view.unwrap_or_else(|| View::around(&points(walls, traces, &corners)));
     let (width, height) = view.size();
     let (wide, high) = (width.pixels(), height.pixels());
-    let total = width.along(legend::WIDTH, 1).pixels();
+    let total = (width + Fraction::whole(legend::WIDTH)).pixels();
     let mut svg = format!(
         "<svg xmlns=\"http://www.w3.org/2000/svg\" width=\"{total}\" height=\"{high}\" \
          font-family=\"sans-serif\" font-size=\"11\">\n\
@@ -53,30 +51,22 @@ pub fn draw(commands: &[Command], traces: &[Trace], options: Options) -> String 
     svg += &sheet(&view, "fill=\"#fff\"");
     svg += &grid(&shaded, options.grid, &view);
     svg += &edge(&view);
-    svg += &wall_lines(&walls, &view);
+    svg += &wall_lines(walls, &view);
     svg += &trace_lines(traces, &view);
     svg += &marks(traces, &view);
     svg += "</g>\n</svg>\n";
     svg += &format!("<rect width=\"{wide}\" height=\"{high}\" fill=\"none\" stroke=\"#ccc\"/>\n");
-    svg += &ids::draw(&walls, traces, &view);
+    svg += &ids::draw(walls, traces, &view);
     svg += &notes(&options.notes, &view);
     svg += &legend::draw(&wide, options.grid);
     svg + "</svg>\n"
 }
 
-fn as_wall(command: &Command) -> Option<Wall> {
-    match command {
-        Command::Wall(wall) => Some(*wall),
-        Command::Track(_) => None,
-    }
-}
-
 /// Lower left and upper right corners of the shaded cells.
-fn corners(shaded: &BTreeSet<(u16, u16)>, figure: Option<u16>) -> Vec<(i64, i64)> {
-    let side = cells::side(figure.unwrap_or(1));
-    let both = |&(column, row): &(u16, u16)| {
-        [(column, row), (column + 1, row + 1)].map(|(x, y)| in_64ths(x * side, y * side))
-    };
+fn corners(shaded: &BTreeSet<Cell>, figure: Option<u64>) -> Vec<(i64, i64)> {
+    let side = 64 * side(figure.unwrap_or(1));
+    let both =
+        |cell: &Cell| [0, 1].map(|more| (((cell.column + more) * side) as i64, ((cell.row + more) * side) as i64));
     shaded.iter().flat_map(both).collect()
 }
 
@@ -94,11 +84,11 @@ fn points(walls: &[Wall], traces: &[Trace], corners: &[(i64, i64)]) -> Vec<(i64,
 }
 
 /// The shaded cells and the lines of the grid.
-fn grid(shaded: &BTreeSet<(u16, u16)>, figure: Option<u16>, view: &View) -> String {
+fn grid(shaded: &BTreeSet<Cell>, figure: Option<u64>, view: &View) -> String {
     let Some(figure) = figure else { return String::new() };
-    let side = cells::side(figure);
+    let side = side(figure);
     let mut text = format!("<g fill=\"{}\">\n", legend::TOUCHED);
-    for (column, row) in shaded {
+    for Cell { column, row } in shaded {
         let (x, y) = (column * side, row * side);
         text += &format!("<rect x=\"{x}\" y=\"{y}\" width=\"{side}\" height=\"{side}\"/>\n");
     }
@@ -112,7 +102,7 @@ fn grid(shaded: &BTreeSet<(u16, u16)>, figure: Option<u16>, view: &View) -> Stri
 /// The rectangle of the sheet, as far as the view shows it.
 fn sheet(view: &View, style: &str) -> String {
     let [left, bottom, right, top] = view.sheet();
-    let units = |value: i64| Fraction::new(value.into(), 64).units();
+    let units = |value: i64| Fraction::new(value, 64).units();
     let (wide, high) = (units(right - left), units(top - bottom));
     let (left, bottom) = (units(left), units(bottom));
     format!("<rect x=\"{left}\" y=\"{bottom}\" width=\"{wide}\" height=\"{high}\" {style}/>\n")
@@ -167,7 +157,7 @@ fn marks(traces: &[Trace], view: &View) -> String {
             x.units(),
             y.units(),
             view.tenths(40),
-            legend::COLOURS[usize::from(trace.row.kind) - 1],
+            legend::COLOURS[usize::from(trace.row.ending.kind()) - 1],
             ending(trace)
         );
     }
@@ -177,13 +167,14 @@ fn marks(traces: &[Trace], view: &View) -> String {
 /// An ending in words, shown where the pointer rests on its mark.
 fn ending(trace: &Trace) -> String {
     let row = trace.row;
-    let cause = match row.kind {
-        1 => format!("trace {}", row.partner),
-        2 => format!("tip {}", row.partner),
-        3 => format!("wall {}", row.partner),
-        _ => "the edge".to_string(),
+    let cause = match row.ending {
+        Ending::Track(id) => format!("trace {id}"),
+        Ending::Meeting(id) => format!("tip {id}"),
+        Ending::Wall(id) => format!("wall {id}"),
+        Ending::Edge => "the edge".to_string(),
     };
-    format!("track {} ends at {}, time {}", row.id, cause, row.time.ratio())
+    let (num, den) = row.time_in_lowest_terms();
+    format!("track {} ends at {cause}, time {num}/{den}", row.id)
 }
 
 /// The notes that stand within the view.

@@ -1,20 +1,8 @@
 //! What the program `roll` prints, read back.
 
-use crate::fraction::Fraction;
+use reference::fraction::Fraction;
+use reference::roll::{Ending, Row};
 use std::str::FromStr;
-
-/// A row: a track and its ending.
-#[derive(Clone, Copy, Debug)]
-pub struct Row {
-    pub id: u16,
-    /// 1 track there before, 2 track at the same time, 3 wall, 4 edge.
-    pub kind: u8,
-    pub partner: u16,
-    pub time: Fraction,
-    /// The end point in 64ths, rounded down.
-    pub x: u32,
-    pub y: u32,
-}
 
 /// The cells entered under g = 8, and the rows.
 pub struct Roll {
@@ -49,12 +37,20 @@ fn row(line: &str) -> Option<Row> {
     let [id, kind, partner, time, x, y] = words[..] else { return None };
     let (num, den) = time.split_once('/')?;
     let (num, den): (u64, u64) = (field(num)?, field(den)?);
-    let kind = field(kind).filter(|kind| (1..=4).contains(kind))?;
-    if den == 0 {
-        return None;
+    let ending = ending(field(kind)?, field(partner)?)?;
+    let time = (den != 0).then(|| Fraction::new(num, den))?;
+    Some(Row { id: field(id)?, ending, time, x: field(x)?, y: field(y)? })
+}
+
+/// The ending of a kind and a partner, which the edge has not.
+fn ending(kind: u8, partner: u16) -> Option<Ending> {
+    match (kind, partner) {
+        (1, id) => Some(Ending::Track(id)),
+        (2, id) => Some(Ending::Meeting(id)),
+        (3, id) => Some(Ending::Wall(id)),
+        (4, 0) => Some(Ending::Edge),
+        _ => None,
     }
-    let time = Fraction::new(num.into(), den.into());
-    Some(Row { id: field(id)?, kind, partner: field(partner)?, time, x: field(x)?, y: field(y)? })
 }
 
 fn field<T: FromStr>(word: &str) -> Option<T> {

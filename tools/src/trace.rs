@@ -1,8 +1,10 @@
 //! A trace: a track of the sheet with its row of the roll.
 
-use crate::fraction::Fraction;
-use crate::roll::{Roll, Row};
-use crate::sheet::{Command, Track};
+use crate::roll::Roll;
+use reference::cells::{cells_of, Cell};
+use reference::fraction::Fraction;
+use reference::roll::Row;
+use reference::sheet::Track;
 
 #[derive(Clone, Copy, Debug)]
 pub struct Trace {
@@ -11,11 +13,14 @@ pub struct Trace {
 }
 
 impl Trace {
-    /// The exact end, start + time × speed; the row's end point is rounded.
+    /// The exact end; the row's end point is rounded.
     pub fn end(&self) -> (Fraction, Fraction) {
-        let Track { x, y, vx, vy, .. } = self.track;
-        let time = self.row.time;
-        (time.along(x.into(), vx.into()), time.along(y.into(), vy.into()))
+        self.track.at(self.row.time)
+    }
+
+    /// The cells with a point of the trace, for illustration: their count is the program's.
+    pub fn cells(&self, figure: u64) -> Vec<Cell> {
+        cells_of(&self.track, self.row.time, figure)
     }
 
     /// Whether the row's end point is the rounded exact end.
@@ -25,13 +30,12 @@ impl Trace {
     }
 }
 
-/// The traces in the order of the roll, or why the roll is not one of this sheet.
-pub fn traces(commands: &[Command], roll: &Roll) -> Result<Vec<Trace>, String> {
-    let tracks: Vec<Track> = commands.iter().filter_map(as_track).collect();
+/// The traces in the order of the roll, or why the roll is not one of a sheet with these tracks.
+pub fn traces(tracks: &[Track], roll: &Roll) -> Result<Vec<Trace>, String> {
     if tracks.len() != roll.rows.len() {
         return Err(format!("{} tracks in the sheet, {} rows", tracks.len(), roll.rows.len()));
     }
-    roll.rows.iter().map(|row| trace(&tracks, row)).collect()
+    roll.rows.iter().map(|row| trace(tracks, row)).collect()
 }
 
 fn trace(tracks: &[Track], row: &Row) -> Result<Trace, String> {
@@ -42,11 +46,4 @@ fn trace(tracks: &[Track], row: &Row) -> Result<Trace, String> {
         return Err(format!("row of track {}: its end point is not at its time", row.id));
     }
     Ok(trace)
-}
-
-fn as_track(command: &Command) -> Option<Track> {
-    match command {
-        Command::Track(track) => Some(*track),
-        Command::Wall(_) => None,
-    }
 }

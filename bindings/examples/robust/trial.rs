@@ -157,7 +157,7 @@ impl<'a> Trial<'a> {
         match self.expected {
             Ok(sheet) if !sheet.rows.is_empty() && FIGURES.contains(&figure) && self.rng.one_in(2) => {
                 let track = self.rng.pick(&sheet.records.tracks);
-                let side = 4096 / figure;
+                let side = cells::side(figure);
                 Cell { figure, column: u64::from(track.x) / side, row: u64::from(track.y) / side }
             }
             _ => Cell { figure, column, row },
@@ -252,11 +252,11 @@ impl<'a> Trial<'a> {
         let (tracks, walls) = (self.name_list(), self.name_list());
         let kind = self.rng.pick(&[0, 1, 1, 2, 2, 3, 3, 4, 5, 256, 257, u64::MAX]);
         let partner = self.rng.pick(&[0, 1, 2, 300, 65535, 65536, 1 << 32, u64::MAX]);
-        let (number, list) = if kind == 3 { (2, &walls) } else { (1, &tracks) };
+        let (number, list) = if kind == 3 { (Place::WALLS, &walls) } else { (Place::TRACKS, &tracks) };
         let id = u16::try_from(partner).ok().filter(|_| (1..=3).contains(&kind));
         let place = id.and_then(|id| find(list, id));
         let (start, size) = place.unwrap_or((0, 0));
-        let expected = Place { list: if place.is_some() { number } else { 1 }, start, size };
+        let expected = Place { list: if place.is_some() { number } else { Place::TRACKS }, start, size };
         let [one, two] = &mut *self.lists;
         let (one, two) = (one.lend_copy(&tracks, self.rng.pick(&SIDES)), two.lend_copy(&walls, self.rng.pick(&SIDES)));
         let found = fissures::name_place(one, two, kind, partner);

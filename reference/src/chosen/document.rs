@@ -13,12 +13,7 @@ fn sheet_d() -> Vec<Command> {
 }
 
 fn sheet_e() -> Vec<Command> {
-    vec![
-        track(1, 100, 100, 10, 0),
-        track(2, 200, 90, 0, 10),
-        track(3, 210, 200, -10, 0),
-        track(4, 100, 210, 0, -10),
-    ]
+    vec![track(1, 100, 100, 10, 0), track(2, 200, 90, 0, 10), track(3, 210, 200, -10, 0), track(4, 100, 210, 0, -10)]
 }
 
 /// Each sheet's name and bytes; `H passed` and `I up` are the second halves of H and I.

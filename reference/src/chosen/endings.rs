@@ -58,11 +58,7 @@ fn several_causes() -> Vec<Vec<Command>> {
         vec![track(1, 4085, 5, 10, 0), track(2, 4095, 0, 0, 5)],
         vec![track(1, 4085, 5, 10, 0), track(2, 4095, 0, 0, 6)],
         vec![track(1, 4085, 5, 10, 0), track(2, 4095, 4, 0, 63)],
-        vec![
-            track(2, 4085, 4085, 10, 10),
-            track(1, 4095, 4085, 0, 10),
-            track(0, 4085, 4095, 10, 0),
-        ],
+        vec![track(2, 4085, 4085, 10, 10), track(1, 4095, 4085, 0, 10), track(0, 4085, 4095, 10, 0)],
         vec![track(1, 4090, 9, 5, 0), wall(4, 4095, 9, 4095, 10)],
         vec![track(1, 4095, 9, 1, 0), track(2, 4090, 4, 5, 5)],
         vec![track(0, 4095, 0, 1, -1), track(1, 4095, 9, 0, -9)],
@@ -95,8 +91,7 @@ fn reached_or_not() -> Vec<Vec<Command>> {
 /// Starts on the edge and at corners, going out, along and in.
 fn at_the_edge() -> Vec<Vec<Command>> {
     let ways = [(1, 0), (1, 1), (0, 1), (-1, 1), (-1, 0), (-1, -1), (0, -1), (1, -1)];
-    let starts =
-        [(0, 0), (4095, 0), (0, 4095), (4095, 4095), (0, 70), (70, 0), (4095, 70), (70, 4095)];
+    let starts = [(0, 0), (4095, 0), (0, 4095), (4095, 4095), (0, 70), (70, 0), (4095, 70), (70, 4095)];
     let from = |(x, y)| ways.map(|(vx, vy)| vec![track(1, x, y, vx, vy)]);
     starts.into_iter().flat_map(from).collect()
 }
@@ -120,11 +115,7 @@ fn on_borders() -> Vec<Vec<Command>> {
             vec![tip(1, 512, way, 8), tip(2, 512, next, 8)],
             vec![tip(1, 512, way, 8), tip(2, 512, next, 7)],
             vec![tip(1, 512, way, 8), tip(2, 0, next, 1)],
-            vec![
-                tip(1, 64, way, 1),
-                wall(1, 2047, 2047, 2049, 2047),
-                wall(2, 2047, 2049, 2049, 2049),
-            ],
+            vec![tip(1, 64, way, 1), wall(1, 2047, 2047, 2049, 2047), wall(2, 2047, 2049, 2049, 2049)],
         ]);
     }
     sheets
@@ -137,9 +128,7 @@ fn stars() -> Vec<Vec<Command>> {
         let part = |speed: i64| (2000 - steps * speed) as u16;
         track(90 - id as u16, part(vx), part(vy), vx as i8, vy as i8)
     };
-    let star = |steps: i64| -> Vec<Command> {
-        ways.iter().enumerate().map(|(id, way)| tip(id, steps, *way)).collect()
-    };
+    let star = |steps: i64| -> Vec<Command> { ways.iter().enumerate().map(|(id, way)| tip(id, steps, *way)).collect() };
     let with = |last| [star(7), vec![last]].concat();
     vec![
         star(1),
@@ -152,14 +141,6 @@ fn stars() -> Vec<Vec<Command>> {
 }
 
 pub fn sheets() -> Vec<Vec<u8>> {
-    let sheets = [
-        behind(),
-        against_walls(),
-        several_causes(),
-        reached_or_not(),
-        at_the_edge(),
-        on_borders(),
-        stars(),
-    ];
+    let sheets = [behind(), against_walls(), several_causes(), reached_or_not(), at_the_edge(), on_borders(), stars()];
     sheets.concat().into_iter().map(listing).collect()
 }

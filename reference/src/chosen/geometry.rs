@@ -67,8 +67,7 @@ fn moving(id: u16, start: Vector, speed: Vector) -> Command {
 
 /// Two tips on one line or just off it, in all directions, with equal and different speeds.
 fn tips_on_one_line() -> Vec<Vec<u8>> {
-    let ways =
-        [(1, 0), (-1, 0), (0, 1), (0, -1), (1, 1), (-1, 1), (1, -1), (-1, -1), (2, 1), (-3, 2)];
+    let ways = [(1, 0), (-1, 0), (0, 1), (0, -1), (1, 1), (-1, 1), (1, -1), (-1, -1), (2, 1), (-3, 2)];
     let factors = [1, -1, 2, -2];
     let mut sheets = Vec::new();
     for way in ways.map(|(x, y)| Vector::new(x, y)) {
@@ -78,10 +77,7 @@ fn tips_on_one_line() -> Vec<Vec<u8>> {
         for there in [here + way * 3, beside] {
             for first in factors {
                 for second in factors {
-                    sheets.push(listing([
-                        moving(1, here, way * first),
-                        moving(2, there, way * second),
-                    ]));
+                    sheets.push(listing([moving(1, here, way * first), moving(2, there, way * second)]));
                 }
                 sheets.push(listing([moving(1, here, way * first), moving(2, there, across)]));
                 sheets.push(listing([moving(1, here, across), moving(2, there, way * first)]));
@@ -107,12 +103,6 @@ fn facing_among_others() -> Vec<Vec<u8>> {
 }
 
 pub fn sheets() -> Vec<Vec<u8>> {
-    [
-        starts_near_walls(),
-        starts_beside_long_walls(),
-        walls_together(),
-        tips_on_one_line(),
-        facing_among_others(),
-    ]
-    .concat()
+    [starts_near_walls(), starts_beside_long_walls(), walls_together(), tips_on_one_line(), facing_among_others()]
+        .concat()
 }

@@ -13,7 +13,7 @@ fn counted(ntracks: u64, nwalls: u64, commands: &[Command]) -> HandedIn {
 fn of_sheets() -> Vec<HandedIn> {
     let document = document::sheets().into_iter().map(|(_, sheet)| sheet);
     let sheets = document.chain(limits::sheets()).chain(together::sheets());
-    let records = sheets.filter_map(|sheet| whole_commands(&sheet)).map(|all| Records::of(&all));
+    let records = sheets.filter_map(|sheet| whole_commands(&sheet).ok()).map(|all| Records::of(&all));
     let has_room = |records: &Records| records.tracks.len().max(records.walls.len()) <= 256;
     records.filter(has_room).map(HandedIn::whole).collect()
 }
@@ -81,12 +81,5 @@ fn behind_the_counted() -> Vec<HandedIn> {
 }
 
 pub fn all() -> Vec<HandedIn> {
-    [
-        of_sheets(),
-        beyond_the_room(),
-        faulty_with_one_too_many(),
-        counts_and_lists(),
-        behind_the_counted(),
-    ]
-    .concat()
+    [of_sheets(), beyond_the_room(), faulty_with_one_too_many(), counts_and_lists(), behind_the_counted()].concat()
 }

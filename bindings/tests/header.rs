@@ -1,0 +1,66 @@
+//! The names of fissures.h and those here stand for the same numbers.
+
+use fissures::{numbers, Place, Refusal, Row, LONGEST_CELL, LONGEST_ROLL, LONGEST_SHEET, ROW};
+use std::collections::BTreeMap;
+
+/// Each name of the header with its number: `#define NAME 1`, or `NAME = 1` in an enum.
+fn header() -> BTreeMap<&'static str, u64> {
+    let lines = include_str!("../fissures.h").lines();
+    let parts = lines.flat_map(|line| line.split(['{', ',', '}']));
+    parts.filter_map(name_and_number).collect()
+}
+
+fn name_and_number(part: &str) -> Option<(&str, u64)> {
+    let part = part.trim();
+    let (name, number) =
+        part.strip_prefix("#define ").map_or_else(|| part.split_once(" = "), |rest| rest.split_once(' '))?;
+    Some((name.strip_prefix("FISSURE_")?, number.parse().ok()?))
+}
+
+#[test]
+fn same_numbers() {
+    let here = [
+        ("ACCEPTED", 0),
+        ("UNKNOWN_COMMAND", Refusal::UNKNOWN_COMMAND),
+        ("CUT_SHORT", Refusal::CUT_SHORT),
+        ("AFTER_END", Refusal::AFTER_END),
+        ("COORDINATE", Refusal::COORDINATE),
+        ("SPEED", Refusal::SPEED),
+        ("EQUAL_ENDS", Refusal::EQUAL_ENDS),
+        ("TOO_MANY", Refusal::TOO_MANY),
+        ("ID_USED", Refusal::ID_USED),
+        ("START_USED", Refusal::START_USED),
+        ("START_ON_WALL", Refusal::START_ON_WALL),
+        ("FACING", Refusal::FACING),
+        ("OUTPUT_TOO_SHORT", Refusal::OUTPUT_TOO_SHORT),
+        ("GRID_FIGURE", Refusal::GRID_FIGURE),
+        ("OUTSIDE_GRID", Refusal::OUTSIDE_GRID),
+        ("TRACKS", Place::TRACKS),
+        ("WALLS", Place::WALLS),
+    ];
+    let lengths = [
+        ("ROW", ROW),
+        ("ROW_ID", Row::ID),
+        ("ROW_KIND", Row::KIND),
+        ("ROW_PARTNER", Row::PARTNER),
+        ("ROW_NUM", Row::NUM),
+        ("ROW_DEN", Row::DEN),
+        ("ROW_X", Row::X),
+        ("ROW_Y", Row::Y),
+        ("LONGEST_ROLL", LONGEST_ROLL),
+        ("LONGEST_CELL", LONGEST_CELL),
+        ("LONGEST_SHEET", LONGEST_SHEET),
+        ("SESSION", numbers::SIZE),
+    ];
+    let lengths = lengths.map(|(name, length)| (name, length as u64));
+    assert_eq!(header(), here.into_iter().chain(lengths).collect());
+}
+
+#[test]
+fn a_refusal_as_an_error() {
+    let facing = Refusal { number: Refusal::FACING, place: 9 };
+    let error: Box<dyn std::error::Error> = facing.into();
+    assert_eq!(error.to_string(), "refused 11 9");
+    assert_eq!(facing.meaning(), "two tips that face each other");
+    assert_eq!(Refusal { number: 15, ..facing }.meaning(), "no line of the table");
+}
