@@ -4,6 +4,7 @@
 use fissures::{numbers, Cell, GridRoll, Place, Row, Session, LONGEST_ROLL, ROW};
 use reference::cells::{self, FIGURES};
 use reference::made_up;
+use reference::names::place_in;
 use reference::refusal::{Refusal, OUTPUT_TOO_SHORT};
 use reference::rng::Rng;
 use reference::roll::{roll, roll_bytes};
@@ -231,23 +232,9 @@ fn step_by_step() {
     }
 }
 
-/// The place and length of an id's name: of the first whole entry with it, before any that is cut short.
-fn find(list: &[u8], id: u16) -> Option<(usize, usize)> {
-    let mut at = 0;
-    loop {
-        let head = list.get(at..at + 3)?;
-        let (start, size) = (at + 3, usize::from(head[2]));
-        list.get(start..start + size)?;
-        if head[..2] == id.to_le_bytes() {
-            return Some((start, size));
-        }
-        at = start + size;
-    }
-}
-
 fn place(tracks: &[u8], walls: &[u8], kind: u64, partner: u64) -> Place {
     let (number, list) = if kind == 3 { (Place::WALLS, walls) } else { (Place::TRACKS, tracks) };
-    let found = u16::try_from(partner).ok().filter(|_| (1..=3).contains(&kind)).and_then(|id| find(list, id));
+    let found = u16::try_from(partner).ok().filter(|_| (1..=3).contains(&kind)).and_then(|id| place_in(list, id));
     match found {
         Some((start, size)) => Place { list: number, start, size },
         None => Place { list: Place::TRACKS, start: 0, size: 0 },

@@ -21,17 +21,23 @@ impl Lookup {
     }
 }
 
-/// The name in the first whole entry with an id, if no entry before it is cut short (SHEETS 8.1, 8.3).
-pub fn name_in(list: &[u8], id: u16) -> Option<&[u8]> {
-    let mut rest = list;
+/// The place and length of the name in the first whole entry with an id, if no entry before it is cut short (SHEETS 8.1, 8.3).
+pub fn place_in(list: &[u8], id: u16) -> Option<(usize, usize)> {
+    let mut at = 0;
     loop {
-        let ([low, high, length], behind) = rest.split_first_chunk()?;
-        let name = behind.get(..usize::from(*length))?;
-        if u16::from_le_bytes([*low, *high]) == id {
-            return Some(name);
+        let head = list.get(at..at + 3)?;
+        let (start, size) = (at + 3, usize::from(head[2]));
+        list.get(start..start + size)?;
+        if head[..2] == id.to_le_bytes() {
+            return Some((start, size));
         }
-        rest = &behind[name.len()..];
+        at = start + size;
     }
+}
+
+/// The name itself.
+pub fn name_in(list: &[u8], id: u16) -> Option<&[u8]> {
+    place_in(list, id).map(|(start, size)| &list[start..start + size])
 }
 
 /// The bytes of an entry; a name has at most 255.

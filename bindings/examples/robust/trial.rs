@@ -3,6 +3,7 @@
 use crate::guarded::{Guarded, SIDES};
 use fissures::{numbers, Cell, GridRoll, Place, ROW};
 use reference::cells::{self, FIGURES};
+use reference::names::place_in;
 use reference::refusal::{Refusal, GRID_FIGURE, OUTPUT_TOO_SHORT, OUTSIDE_GRID};
 use reference::rng::Rng;
 use reference::roll::{roll, roll_bytes, Row};
@@ -254,7 +255,7 @@ impl<'a> Trial<'a> {
         let partner = self.rng.pick(&[0, 1, 2, 300, 65535, 65536, 1 << 32, u64::MAX]);
         let (number, list) = if kind == 3 { (Place::WALLS, &walls) } else { (Place::TRACKS, &tracks) };
         let id = u16::try_from(partner).ok().filter(|_| (1..=3).contains(&kind));
-        let place = id.and_then(|id| find(list, id));
+        let place = id.and_then(|id| place_in(list, id));
         let (start, size) = place.unwrap_or((0, 0));
         let expected = Place { list: if place.is_some() { number } else { Place::TRACKS }, start, size };
         let [one, two] = &mut *self.lists;
@@ -264,20 +265,6 @@ impl<'a> Trial<'a> {
             let call = format!("name {kind} {partner} in {tracks:02x?} {walls:02x?}: {found:?}");
             self.differences.push(format!("{call}\n  expected: {expected:?}"));
         }
-    }
-}
-
-/// The place and length of an id's name: of the first whole entry with it, before any that is cut short.
-fn find(list: &[u8], id: u16) -> Option<(usize, usize)> {
-    let mut at = 0;
-    loop {
-        let head = list.get(at..at + 3)?;
-        let (start, size) = (at + 3, usize::from(head[2]));
-        list.get(start..start + size)?;
-        if head[..2] == id.to_le_bytes() {
-            return Some((start, size));
-        }
-        at = start + size;
     }
 }
 
