@@ -37,7 +37,7 @@ pub record Due (S : Listing) (starts speeds : List ℕ) (n : ℕ) (walls : List 
   pub popping : Popping S starts speeds n walls m g i table over marks spots keys heap place lists cells rows before out
   pub is : event ≡ eventOf (keyAt keys i .late) (next (trackAt starts speeds i) (side g) (spotAt spots i)) (causeAt table i)
 
--- an event of tip a left the heap at the time τ: where a cell is entered, that is when the trace of a, to its exact end, enters it
+-- an event of tip a left the heap at the time τ: where a cell is entered, that is when the trace of a, to its exact end, enters it (SHEETS 6.4, 6.8)
 abbrev pub InTime : Listing → ℕ → Track → Event → Time → Type 0
 InTime S g a (event.Cell x y) τ = EnteredAt a (timeOf (rollOf S) (a .id)) (side g) (record { column = x; row = y }) τ
 InTime S g a (event.Track i) τ = Unit {0}

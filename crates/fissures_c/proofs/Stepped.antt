@@ -27,7 +27,7 @@ use Rattle.session.specs.declared.Session.{Session}
 use Rattle.session.specs.declared.Advanced.{Advanced}
 use Rattle.session.specs.declared.Begun.{Begun}
 use Rattle.session.specs.Stepping as stepping
-use Rattle.fissures_c.specs.Steps.{shown, sessionFits, judge, Takes, startCall, rollIn, nextRows, shownThen, advanceReturns, advanceCall, runningCall}
+use Rattle.fissures_c.specs.Steps.{shown, sessionFits, judge, Takes, startCall, rollOfBytes, rowsBehind, shownThen, advanceGives, advanceCall, runningCall}
 use Rattle.fissures_c.proofs.Reached.{Told, left, left-two, left-four}
 
 -- one number put in front
@@ -110,9 +110,9 @@ module _ (s session : List ℕ) where
 
     module _ (n : ℕ) (out : List ℕ) where
       abbrev R : Returned
-      R = advanceReturns s session n (length out)
+      R = advanceGives s session n (length out)
 
-      same-rows : stepping.nextRows (sessionOf s session) n ≡ nextRows s session n
+      same-rows : stepping.nextRows (sessionOf s session) n ≡ rowsBehind s session n
       same-rows = ap (λ (T : Listing). take n (drop (shown session) (rollOf T))) same-records
 
       same-answer : stepping.advanceOf (sessionOf s session) n (length out) ≡ R
@@ -122,7 +122,7 @@ module _ (s session : List ℕ) where
         h : stepping.Advances (sessionOf s session) n out exit r
         h = subst (λ (u : Session). stepping.Advances u n out exit r) q a
 
-        buffer-then : exit ≡ after R (rollBytes (nextRows s session n)) out
+        buffer-then : exit ≡ after R (rollBytes (rowsBehind s session n)) out
         buffer-then = h .buffer ∙ (λ j. after (same-answer j) (rollBytes (same-rows j)) out)
 
         told-of : answered (r .answer) ≡ R
@@ -131,7 +131,7 @@ module _ (s session : List ℕ) where
         stored-given : {k : ℕ} → answered (r .answer) ≡ gives k → set session 0 (r .session .shown) ≡ after R (shownThen s session n ∷ []) session
         unfolding stepping.advanceSession
         stored-given {k} f =
-            let rows = nextRows s session n in
+            let rows = rowsBehind s session n in
             let g : gives k ≡ stepping.advanceOf (sessionOf s session) n (length out) = sym f ∙ h .answer in
             let G : gives k ≡ R = g ∙ same-answer in
             let c = gave (29 * length rows) (length out) (length rows) (accepted-decides (judge s session) e) G .count in
@@ -159,9 +159,9 @@ module _ (s session : List ℕ) where
 
   pub as-judged : (n : ℕ) (out : List ℕ) {r second m p : ℕ} → Told r second (refused m p) → judge s session ≡ refused m p → (r, second, session, out) ≡ advanceCall s session n out
   as-judged n out t e =
-      let rows = nextRows s session n in
+      let rows = rowsBehind s session n in
       let j = said-refused (orShort (29 * length rows) (length out) (length rows)) e in
       left-four t (sym j) (sym (kept (shownThen s session n ∷ []) session j)) (sym (kept (rollBytes rows) out j))
 
   pub not-running : {r second m p : ℕ} → Told r second (refused m p) → judge s session ≡ refused m p → (r, second) ≡ runningCall s session
-  not-running t e = left-two t (sym (said-refused (gives (length (drop (shown session) (rollIn s)))) e))
+  not-running t e = left-two t (sym (said-refused (gives (length (drop (shown session) (rollOfBytes s)))) e))

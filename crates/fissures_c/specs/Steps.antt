@@ -49,28 +49,28 @@ pub record Takes (s session : List ℕ) (r : Begun) : Type 0 where
 abbrev pub startCall : List ℕ → List ℕ → ℕ × ℕ × List ℕ
 startCall s session = leaves (andThen (judge s session) (gives 0)) (0 ∷ []) session
 
-abbrev pub rollIn : List ℕ → List Row
-rollIn s = rollOf (listing (commandsOf s))
+abbrev pub rollOfBytes : List ℕ → List Row
+rollOfBytes s = rollOf (listing (commandsOf s))
 
 -- the next n rows, or those left if fewer; more rows shown than the roll has are all of them (SHEETS 7.2, 7.5)
-abbrev pub nextRows : List ℕ → List ℕ → ℕ → List Row
-nextRows s session n = take n (drop (shown session) (rollIn s))
+abbrev pub rowsBehind : List ℕ → List ℕ → ℕ → List Row
+rowsBehind s session n = take n (drop (shown session) (rollOfBytes s))
 
 abbrev pub shownThen : List ℕ → List ℕ → ℕ → ℕ
-shownThen s session n = min (shown session) (length (rollIn s)) + length (nextRows s session n)
+shownThen s session n = min (shown session) (length (rollOfBytes s)) + length (rowsBehind s session n)
 
-abbrev pub advanceReturns : List ℕ → List ℕ → ℕ → ℕ → Returned
-advanceReturns s session n lent = let rows = nextRows s session n in andThen (judge s session) (orShort (29 * length rows) lent (length rows))
+abbrev pub advanceGives : List ℕ → List ℕ → ℕ → ℕ → Returned
+advanceGives s session n lent = let rows = rowsBehind s session n in andThen (judge s session) (orShort (29 * length rows) lent (length rows))
 
 -- the two numbers, the session and the rows
 abbrev pub advanceCall : List ℕ → List ℕ → ℕ → List ℕ → ℕ × ℕ × List ℕ × List ℕ
 advanceCall s session n out =
-    let R = advanceReturns s session n (length out) in
-    (number R, other R, after R (shownThen s session n ∷ []) session, after R (rollBytes (nextRows s session n)) out)
+    let R = advanceGives s session n (length out) in
+    (number R, other R, after R (shownThen s session n ∷ []) session, after R (rollBytes (rowsBehind s session n)) out)
 
 -- the rows not yet shown (SHEETS 7.4)
 abbrev pub runningCall : List ℕ → List ℕ → ℕ × ℕ
-runningCall s session = told (andThen (judge s session) (gives (length (drop (shown session) (rollIn s)))))
+runningCall s session = told (andThen (judge s session) (gives (length (drop (shown session) (rollOfBytes s)))))
 
 -- ---- a name
 

@@ -14,14 +14,14 @@ use Rattle.sheet.specs.declared.Answer.{Answer}
 use Rattle.plain_run.specs.Rolled.{Rolls}
 use Rattle.grid_run.specs.declared.GridRolled.{GridRolled}
 use Rattle.grid_run.specs.GridRolled.{GridRolls}
-use Rattle.grid_run.specs.Exchanged.{OtherOrder, Entry, Agree}
+use Rattle.grid_run.specs.Exchanged.{OtherOrder, AtEntry, Agree}
 use Rattle.grid_run.specs.Demand.{in-bytes}
 use Rattle.grid_run.proofs.Demand.{demand-bytes}
 
 other-accepted : {s t : List ℕ} → AllBytes s → s ≡ encodeAll (commandsOf s) → t ≡ encodeAll (commandsOf t) → List·Permᴰ (commandsOf s) (commandsOf t) → verdictOf s ≡ accepted → verdictOf t ≡ accepted
 other-accepted {s} {t} b whole whole′ p e = ap verdictOf whole′ ∙ order-verdict p (accepted-fits s b e) (ap verdictOf (sym whole) ∙ e)
 
-module _ (e : Entry) (b : AllBytes (e .first)) (b′ : AllBytes (e .second)) {plain grid : List ℕ} {p : Answer} {r : GridRolled}
+module _ (e : AtEntry) (b : AllBytes (e .first)) (b′ : AllBytes (e .second)) {plain grid : List ℕ} {p : Answer} {r : GridRolled}
     (by-plain : Rolls (verdictOf (e .first)) (listing (commandsOf (e .first))) (e .plain) plain p)
     (by-grid : GridRolls (verdictOf (e .second)) (listing (commandsOf (e .second))) (e .figure) (e .grid) grid r) where
   pub exchange-agrees : OtherOrder (e .first) (e .second) → Agree e plain grid

@@ -20,7 +20,7 @@ pub record OtherOrder (first second : List ℕ) : Type 0 where
   pub order : List·Permᴰ (commandsOf first) (commandsOf second)
 
 -- the listings, the figure, and the two buffers at entry (SHEETS 10.1)
-pub record Entry : Type 0 where
+pub record AtEntry : Type 0 where
   pub first : List ℕ
   pub second : List ℕ
   pub figure : ℕ
@@ -28,13 +28,13 @@ pub record Entry : Type 0 where
   pub grid : List ℕ
 
 -- both accepted or neither (SHEETS 3.7); one and the same roll is written where both buffers are long enough (SHEETS 10.1)
-pub record Agree (e : Entry) (plain grid : List ℕ) : Type 0 where
+pub record Agree (e : AtEntry) (plain grid : List ℕ) : Type 0 where
   pub alike : (verdictOf (e .first) ≡ accepted) ↔ (verdictOf (e .second) ≡ accepted)
   pub equal : let S = listing (commandsOf (e .first)) in
       verdictOf (e .first) ≡ accepted → Figure (e .figure) → needed S ≤ length (e .plain) → needed S ≤ length (e .grid) → take (needed S) plain ≡ take (needed S) grid
 
 -- what each run answers and writes, and that they agree (SHEETS 10.1)
-pub record Exchanges (e : Entry) (plain grid : List ℕ) (r : Exchanged) : Type 0 where
+pub record Exchanges (e : AtEntry) (plain grid : List ℕ) (r : Exchanged) : Type 0 where
   pub by-plain : Rolls (verdictOf (e .first)) (listing (commandsOf (e .first))) (e .plain) plain (r .plain)
   pub by-grid : GridRolls (verdictOf (e .second)) (listing (commandsOf (e .second))) (e .figure) (e .grid) grid (r .grid)
   pub agree : OtherOrder (e .first) (e .second) → Agree e plain grid

@@ -1,7 +1,7 @@
 -- `exchange` gives two listings to the two runs.
 use borrow.Author.Needs.{needs}
 use native.Mathlib.Omega.{arith}
-use Rattle.grid_run.specs.Exchanged.{Entry}
+use Rattle.grid_run.specs.Exchanged.{AtEntry}
 use Rattle.grid_run.proofs.TwoListings.{exchange-agrees}
 use Rattle.grid_run.proofs.exchange.Statement.{statement}
 use Rattle.grid_run.proofs.exchange.Tie as tie
@@ -25,7 +25,7 @@ returns c =
     let k′ = c .before .before .before .before .before .before .before .before .before .before .shared-slice-known2 .given in
     let p = c .before .before .before .before .before .before .plain-roll-bytes .ensures in
     let q = c .before .before .grid-roll-bytes .ensures in
-    let e : Entry = record { first = a .first .now; second = a .second .now; figure = a .g; plain = a .plain .now; grid = a .grid .now } in
+    let e : AtEntry = record { first = a .first .now; second = a .second .now; figure = a .g; plain = a .plain .now; grid = a .grid .now } in
     record { by-plain = p; by-grid = q; agree = exchange-agrees e (record { below = λ i. omega (arith, k i) }) (record { below = λ i. omega (arith, k′ i) }) p q }
 
 pub exchange-spec : {M : Type 1} → statement M
