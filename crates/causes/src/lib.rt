@@ -89,7 +89,7 @@ pub fn edge_cause(a: Track) -> Cause
 }
 
 // The first of c and the wall w, the sheet's k-th.
-fn with_wall(c: Cause, a: Track, w: Wall, k: usize) -> Cause
+pub fn with_wall(c: Cause, a: Track, w: Wall, k: usize) -> Cause
     requires { ⌜ Fine c × TrackOk a × WallOk w ⌝ }
     ensures { λ r. ⌜ WallOffered a w k c r ⌝ }
 {
@@ -173,7 +173,7 @@ pub struct Region {
 }
 
 // Does the box of two ends come between low and high?
-fn reaches(a: u16, b: u16, low: u64, high: u64) -> bool
+pub fn reaches(a: u16, b: u16, low: u64, high: u64) -> bool
     ensures { λ r. ⌜ (r ≡ true → Reaches a b low high) × (r ≡ false → Reaches a b low high → ⊥) ⌝ }
 {
     let a = a as u64;

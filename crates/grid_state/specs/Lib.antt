@@ -1,0 +1,5 @@
+pub mod Sweep
+pub mod State
+pub mod Run
+pub mod Meeting
+pub mod ToDo
