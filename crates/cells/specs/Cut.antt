@@ -33,3 +33,15 @@ sooner k l = cond (before l k) l k
 -- just after a time: the times up to T are those before it
 unfoldable pub past : Time → Cut
 past t = record { num = t .num; den = t .den; late = 1; some = omega (arith, t .den-pos); late-bit = omega arith; late-den = omega (arith, t .den-pos) }
+
+-- ---- the order of cuts
+
+infix 50 _≤ᶜ_ _<ᶜ_
+pub record _≤ᶜ_ (k l : Cut) : Type 0 where
+  pub to : (t : Time) → After l t → After k t
+
+-- some time lies between
+pub record _<ᶜ_ (k l : Cut) : Type 0 where
+  pub at : Time
+  pub above : After k at
+  pub below : ¬ After l at

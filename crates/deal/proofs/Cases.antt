@@ -16,7 +16,7 @@ use Rattle.turn.specs.Counts.{Counts, no-track}
 use Rattle.cells.specs.declared.Cell.{Cell}
 use Rattle.cells.specs.EnteredAt.{EnteredAt}
 use Rattle.cells.specs.Grid.{side}
-use Rattle.cells.proofs.Walk.{next}
+use Rattle.cells.specs.Walk.{next}
 use Rattle.heap.specs.declared.Event.{Event}
 use Rattle.heap.specs.declared.Event.the-variants as event
 use Rattle.heap.specs.Key.{time, keyAt}

@@ -32,7 +32,7 @@ use Rattle.turn.proofs.Rolling.{written-next}
 use Rattle.cells.specs.declared.Cell.{Cell}
 use Rattle.cells.specs.EnteredAt.{EnteredAt}
 use Rattle.cells.specs.Grid.{side}
-use Rattle.cells.proofs.Walk.{next}
+use Rattle.cells.specs.Walk.{next}
 use Rattle.heap.specs.declared.Key.{Key}
 use Rattle.heap.specs.Key.{time, keyAt}
 use Rattle.heap.specs.Queue.{Pending, Absent, Pushed}

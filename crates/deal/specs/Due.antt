@@ -12,7 +12,7 @@ use Rattle.lines.specs.Lines.{trackAt}
 use Rattle.table.specs.Table.{causeAt}
 use Rattle.cells.specs.EnteredAt.{EnteredAt}
 use Rattle.cells.specs.Grid.{side}
-use Rattle.cells.proofs.Walk.{next}
+use Rattle.cells.specs.Walk.{next}
 use Rattle.heap.specs.declared.Event.{Event}
 use Rattle.heap.specs.declared.Event.the-variants as event
 use Rattle.heap.specs.Key.{keyAt}

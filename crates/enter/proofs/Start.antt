@@ -17,7 +17,7 @@ use Rattle.causes.proofs.Looking.{edge-first}
 use Rattle.table.specs.Table.{numbersOf}
 use Rattle.cells.specs.declared.Cell.{Cell}
 use Rattle.cells.specs.Grid.{side}
-use Rattle.cells.proofs.Count.{first}
+use Rattle.cells.specs.Walk.{first}
 use Rattle.sweep.specs.State.{cellsAt}
 use Rattle.sweep.specs.Run.{State, Way}
 use Rattle.sweep.proofs.Turns.{figure-in, way-open}

@@ -12,7 +12,7 @@ use Rattle.table.specs.Table.{numbersOf, causeAt}
 use Rattle.table.proofs.Stored.{stored-same}
 use Rattle.turn.specs.LookedAgain.{LookedAgain}
 use Rattle.cells.specs.declared.Cell.{Cell}
-use Rattle.cells.proofs.Walk.{next}
+use Rattle.cells.specs.Walk.{next}
 use Rattle.heap.specs.Key.{keyAt}
 use Rattle.pending.specs.Pending.{eventOf}
 use Rattle.sweep.specs.State.{spotAt}

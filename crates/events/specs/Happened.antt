@@ -12,7 +12,7 @@ use Rattle.table.specs.Table.{causeAt}
 use Rattle.turn.specs.Ended.{Ended}
 use Rattle.turn.specs.LookedAgain.{LookedAgain}
 use Rattle.cells.specs.declared.Cell.{Cell}
-use Rattle.cells.proofs.Walk.{next}
+use Rattle.cells.specs.Walk.{next}
 use Rattle.heap.specs.Key.{keyAt}
 use Rattle.heap.specs.Queue.{Present, Popped}
 use Rattle.pending.specs.Pending.{eventOf}

@@ -8,11 +8,11 @@ use Rattle.sheet.specs.Listing.{Listing, _∈_}
 use Rattle.rule.specs.declared.Row.{Row}
 use Rattle.rule.specs.EdgeTime.{rim}
 use Rattle.rule.specs.Selection.{rollOf}
-use Rattle.rule.proofs.Turn.{Progress}
+use Rattle.rule.specs.Meanwhile.{Progress}
 use Rattle.causes.specs.Cause.{tipAt}
 use Rattle.cells.specs.declared.Cell.{Cell}
 use Rattle.cells.specs.Grid.{Figure, side}
-use Rattle.cells.proofs.Entered.{Entered}
+use Rattle.cells.specs.Entered.{Entered}
 use Rattle.tips.specs.Tips.{tipIn}
 use Rattle.grid_steps.specs.Steps.{InGrid}
 use Rattle.grid_state.specs.Sweep.{Sweep}

@@ -14,15 +14,14 @@ use Rattle.rule.specs.Causes.{by-side, by-rim, Below, upTo}
 use Rattle.rule.specs.Contact.{when, hit, contact}
 use Rattle.rule.specs.EdgeTime.{rim}
 use Rattle.rule.specs.WallTime.{wallTime}
-use Rattle.rule.proofs.Known.{Beats}
+use Rattle.rule.specs.Meanwhile.{Beats}
 use Rattle.causes.specs.declared.Cause.{Cause}
 use Rattle.causes.specs.Cause.{tipAt, wallAt, candOf, Fine, Stands}
 use Rattle.causes.specs.Looked.{Near}
 use Rattle.cells.specs.declared.Cell.{Cell}
 use Rattle.cells.specs.Touched.{CellsOf}
-use Rattle.cells.specs.Cut.{past}
-use Rattle.cells.proofs.Cut.{_<ᶜ_}
-use Rattle.cells.proofs.Entered.{Entered}
+use Rattle.cells.specs.Cut.{past, _<ᶜ_}
+use Rattle.cells.specs.Entered.{Entered}
 use Rattle.cells.specs.OneCell.{entry}
 use Rattle.event_queue.specs.Queue.{Slots, slot}
 use Rattle.tips.specs.Tips.{Tip, tipIn}

@@ -6,7 +6,7 @@ use lib.ListN.{length}
 use Rattle.exact.specs.Time.{Time, fraction}
 use Rattle.sheet.specs.Listing.{Listing}
 use Rattle.rule.specs.declared.Row.{Row}
-use Rattle.rule.proofs.Running.{Fresh}
+use Rattle.rule.specs.Meanwhile.{Fresh}
 use Rattle.causes.specs.Cause.{tipAt}
 use Rattle.causes.specs.Looked.{Gone}
 use Rattle.tips.specs.Tips.{Tip, tipIn}

@@ -10,7 +10,7 @@ use Rattle.exact.specs.Small.{Small}
 use Rattle.sheet.specs.declared.Track.{Track}
 use Rattle.sheet.specs.Accepted.{TrackOk}
 use Rattle.sheet.specs.Listing.{Listing}
-use Rattle.rule.proofs.Known.{Beats}
+use Rattle.rule.specs.Meanwhile.{Beats}
 use Rattle.lines.specs.Lines.{trackAt, Tracked}
 use Rattle.causes.specs.declared.Cause.{Cause}
 use Rattle.causes.specs.Cause.{tipAt, candOf, Fine}

@@ -5,7 +5,7 @@ use mathlib.Core.List.{List}
 use Prim.Native.Nat.{ℕ, _*_, _<_}
 use lib.ListN.{getD}
 use Rattle.sheet.specs.Listing.{_∈_}
-use Rattle.rule.proofs.Known.{Beats}
+use Rattle.rule.specs.Meanwhile.{Beats}
 use Rattle.causes.specs.Cause.{tipAt, candOf}
 use Rattle.causes.specs.Looked.{Named}
 use Rattle.table.specs.Table.{causeAt}

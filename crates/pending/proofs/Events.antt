@@ -10,7 +10,7 @@ use Rattle.causes.specs.declared.Cause.{Cause}
 use Rattle.causes.specs.Cause.{Fine}
 use Rattle.cells.specs.declared.Cell.{Cell}
 use Rattle.cells.specs.OneCell.{exit}
-use Rattle.cells.proofs.Walk.{next}
+use Rattle.cells.specs.Walk.{next}
 use Rattle.walk.specs.declared.Onset.{Onset}
 use Rattle.walk.specs.declared.Crossing.{Crossing}
 use Rattle.walk.specs.Onsets.{onset, onsetOf, priorOf, Gives, Crosses, crossOf}

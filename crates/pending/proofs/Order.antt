@@ -10,15 +10,16 @@ use native.Mathlib.Omega.{arith}
 use native.Mathlib.Nat.{le-refl, eq-zero-or-pos}
 use native.Mathlib.Decide.{decLt}
 use Rattle.exact.specs.Time.{_≤ᵗ_, _<ᵗ_, _≈ᵗ_, fraction}
-use Rattle.exact.proofs.TimeOrder.{≈ᵗ-of, ≤ᵗ-or-<ᵗ, fraction-before, fraction-not-before}
+use Rattle.exact.specs.Order.{≈ᵗ-of, ≤ᵗ-or-<ᵗ}
+use Rattle.exact.proofs.TimeOrder.{fraction-before, fraction-not-before}
 use Rattle.sheet.specs.declared.Track.{Track}
 use Rattle.causes.specs.declared.Cause.{Cause}
 use Rattle.causes.specs.Cause.{Fine}
 use Rattle.cells.specs.declared.Cell.{Cell}
-use Rattle.cells.specs.Cut.{Cut, before, past}
+use Rattle.cells.specs.Cut.{Cut, before, past, _≤ᶜ_, _<ᶜ_}
 use Rattle.cells.specs.OneCell.{exit}
-use Rattle.cells.proofs.Cut.{_≤ᶜ_, _<ᶜ_, before-true, before-false, after-den, not-less}
-use Rattle.cells.proofs.Walk.{next}
+use Rattle.cells.proofs.Cut.{before-true, before-false, after-den, not-less}
+use Rattle.cells.specs.Walk.{next}
 use Rattle.walk.specs.Onsets.{onset, onsetOf, priorOf}
 use Rattle.walk.proofs.Onsets.{is-before, past-is}
 use Rattle.heap.specs.declared.Key.{Key}

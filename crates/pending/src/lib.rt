@@ -3,7 +3,7 @@ ghost use mathlib.Core.Path.{_≡_};
 ghost use Prim.Native.Nat.{_≤_};
 ghost use Rattle.sheet.specs.Accepted.{TrackOk};
 ghost use Rattle.causes.specs.Cause.{Fine};
-ghost use Rattle.cells.proofs.Walk.{next};
+ghost use Rattle.cells.specs.Walk.{next};
 ghost use Rattle.walk.specs.Onsets.{Near};
 ghost use Rattle.heap.specs.Key.{KeyOk};
 ghost use Rattle.pending.specs.Pending.{pendingKey, reachedOf, eventOf};

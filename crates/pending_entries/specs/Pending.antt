@@ -7,7 +7,7 @@ use Rattle.sheet.specs.declared.Track.{Track}
 use Rattle.causes.specs.declared.Cause.{Cause}
 use Rattle.cells.specs.declared.Cell.{Cell}
 use Rattle.cells.specs.OneCell.{exit}
-use Rattle.cells.proofs.Walk.{next}
+use Rattle.cells.specs.Walk.{next}
 use Rattle.walk.specs.declared.Onset.{Onset}
 use Rattle.walk.specs.Onsets.{onset, onsetOf, priorOf}
 use Rattle.event_queue.specs.declared.Key.{Key}

@@ -16,7 +16,7 @@ use Rattle.rule.specs.declared.Row.{Row}
 use Rattle.rule.specs.Causes.{by-side, by-rim, _≼_}
 use Rattle.rule.specs.EdgeTime.{rim}
 use Rattle.rule.proofs.Existence.{cand-trans}
-use Rattle.rule.proofs.Turn.{Live}
+use Rattle.rule.specs.Meanwhile.{Live}
 use Rattle.causes.specs.declared.Cause.{Cause}
 use Rattle.causes.specs.Cause.{tipAt, wallAt, candOf, Fine, Stands}
 use Rattle.causes.specs.Looked.{Near, WallsLooked, FirstOfTracks, Named}

@@ -11,7 +11,7 @@ use borrow.Author.Count.{below-more}
 use Rattle.exact.specs.Time.{fraction}
 use Rattle.sheet.specs.Listing.{Listing}
 use Rattle.rule.specs.declared.Row.{Row}
-use Rattle.rule.proofs.Turn.{Live}
+use Rattle.rule.specs.Meanwhile.{Live}
 use Rattle.causes.specs.declared.Cause.{Cause}
 use Rattle.causes.specs.Cause.{tipAt, candOf, Fine, Stands}
 use Rattle.causes.specs.Looked.{Gone, Ends, Named, Tables, FirstOfTracks, TracksLooked}

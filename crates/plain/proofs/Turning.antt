@@ -20,8 +20,8 @@ use Rattle.rule.specs.WallTime.{wallTime}
 use Rattle.rule.proofs.Known.{below-le}
 use Rattle.rule.proofs.OnSheet.{rim-inside}
 use Rattle.rule.proofs.Places.{SeenAt, turn-at}
-use Rattle.rule.proofs.Running.{Fresh}
-use Rattle.rule.proofs.Turn.{Progress, progress-more, beats-step}
+use Rattle.rule.specs.Meanwhile.{Fresh, Progress}
+use Rattle.rule.proofs.Turn.{progress-more, beats-step}
 use Rattle.lines.specs.Lines.{trackAt, Lined}
 use Rattle.causes.specs.Cause.{tipAt, candOf}
 use Rattle.table.specs.Table.{causeAt}

@@ -14,8 +14,7 @@ use Rattle.rule.specs.Contact.{when}
 use Rattle.rule.specs.EdgeTime.{rim}
 use Rattle.rule.specs.Selection.{rollOf}
 use Rattle.rule.specs.WallTime.{wallTime}
-use Rattle.rule.proofs.Known.{Beats}
-use Rattle.rule.proofs.Turn.{Live, Progress}
+use Rattle.rule.specs.Meanwhile.{Beats, Live, Progress}
 use Rattle.lines.specs.Lines.{wallsIn, Lined}
 use Rattle.causes.specs.declared.Cause.{Cause}
 use Rattle.causes.specs.Cause.{tipAt, wallAt, candOf, Fine, Stands}

@@ -28,7 +28,8 @@ use Rattle.rule.proofs.Known.{below-le, Seen}
 use Rattle.rule.proofs.OnSheet.{rim-inside, contact-of, contact-hit}
 use Rattle.rule.proofs.Places.{RunsAt, best, turn-seen, grid-seen-at}
 use Rattle.rule.proofs.Selection.{up-one, up-fresh}
-use Rattle.rule.proofs.Turn.{Formal, Live, beats-step, Progress}
+use Rattle.rule.specs.Meanwhile.{Formal, Live, Progress}
+use Rattle.rule.proofs.Turn.{beats-step}
 use Rattle.causes.specs.Cause.{tipAt, candOf}
 use Rattle.causes.specs.Looked.{Near, endAt, Named}
 use Rattle.causes.proofs.Near.{near-on}
@@ -38,10 +39,11 @@ use Rattle.turn.proofs.Ended.{runs-on, runs-before, ends-next, out-next, rows-n
 use Rattle.cells.specs.declared.Cell.{Cell}
 use Rattle.cells.specs.Grid.{InCell}
 use Rattle.cells.specs.Touched.{CellsOf}
-use Rattle.cells.specs.Cut.{past}
+use Rattle.cells.specs.Cut.{past, _≤ᶜ_, _<ᶜ_}
 use Rattle.cells.specs.OneCell.{entry, exit}
-use Rattle.cells.proofs.Cut.{_≤ᶜ_, _<ᶜ_, not-past}
-use Rattle.cells.proofs.Entered.{Entered, entered-last}
+use Rattle.cells.proofs.Cut.{not-past}
+use Rattle.cells.specs.Entered.{Entered}
+use Rattle.cells.proofs.Entered.{entered-last}
 use Rattle.cells.proofs.Entry.{cell-entry, cell-exit}
 use Rattle.cells.proofs.Points.{shared, placed}
 use Rattle.heap.specs.Key.{NotAfter}

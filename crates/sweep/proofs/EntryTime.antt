@@ -26,18 +26,20 @@ use Rattle.rule.proofs.Contacts.{Passed, ContactMeans, no-contact, contact-at}
 use Rattle.rule.proofs.Existence.{roll-of}
 use Rattle.rule.proofs.OneRoll.{meets, timeOf-row}
 use Rattle.rule.proofs.OnSheet.{contact-of, wall-of, rim-last}
-use Rattle.rule.proofs.Running.{Ended, Fresh, ended?}
+use Rattle.rule.specs.Meanwhile.{Ended, Fresh}
+use Rattle.rule.proofs.Running.{ended?}
 use Rattle.rule.proofs.Selection.{up-all, up-fresh}
 use Rattle.rule.proofs.Walls.{WallMeans, clear, touches}
 use Rattle.causes.specs.declared.Cause.{Cause}
 use Rattle.causes.specs.Cause.{Fine}
 use Rattle.cells.specs.declared.Cell.{Cell}
 use Rattle.cells.specs.EnteredAt.{EnteredAt}
-use Rattle.cells.specs.Cut.{past}
+use Rattle.cells.specs.Cut.{past, _<ᶜ_}
 use Rattle.cells.specs.OneCell.{entry, exit}
-use Rattle.cells.proofs.Cut.{_<ᶜ_, after-den, after-mono}
+use Rattle.cells.proofs.Cut.{after-den, after-mono}
 use Rattle.cells.proofs.Entry.{past-before, before-past, point-by, entered-at}
-use Rattle.cells.proofs.Walk.{next, Stepped}
+use Rattle.cells.specs.Walk.{next}
+use Rattle.cells.proofs.Walk.{Stepped}
 use Rattle.heap.specs.Key as key
 use Rattle.pending.specs.Pending.{pendingKey}
 use Rattle.pending.proofs.Order.{pending-by, own-entry}

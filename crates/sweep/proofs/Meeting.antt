@@ -10,8 +10,8 @@ use Rattle.sheet.specs.declared.Track.{Track}
 use Rattle.sheet.specs.HandedIn.{noTrack}
 use Rattle.sheet.specs.Listing.{Listing, _∈_}
 use Rattle.sheet.proofs.Lists.{mem-at}
-use Rattle.rule.proofs.Known.{Beats, below-le}
-use Rattle.rule.proofs.Turn.{Live}
+use Rattle.rule.specs.Meanwhile.{Beats, Live}
+use Rattle.rule.proofs.Known.{below-le}
 use Rattle.lines.specs.Lines.{trackAt}
 use Rattle.lines.proofs.Firsts.{firsts-count, firsts-read}
 use Rattle.causes.specs.declared.Cause.{Cause}

@@ -2,7 +2,7 @@
 use mathlib.Core.List.{List, _∷_}
 use mathlib.Core.Logic.{inl, inr, _≢_}
 use mathlib.Core.Path.{_≡_, refl, sym, ap, _∙_, subst}
-use Prim.Native.Nat.{ℕ, _+_, _*_, _-_, _<_}
+use Prim.Native.Nat.{ℕ, _+_, _*_, _<_}
 use native.Mathlib.Decide.{ℕ-discrete}
 use native.Mathlib.Omega.{arith}
 use lib.ListN.{length, getD, set, length-set}
@@ -14,7 +14,7 @@ use Rattle.sheet.specs.Listing.{Listing, _∈_}
 use Rattle.sheet.proofs.Lists.{mem-at}
 use Rattle.rule.specs.declared.Row.{Row}
 use Rattle.rule.specs.Causes.{_≼_}
-use Rattle.rule.proofs.Turn.{Live}
+use Rattle.rule.specs.Meanwhile.{Live}
 use Rattle.lines.specs.Lines.{trackAt}
 use Rattle.lines.proofs.Places.{tracks-count, track-read}
 use Rattle.causes.specs.declared.Cause.{Cause}

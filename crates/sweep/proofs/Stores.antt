@@ -17,7 +17,7 @@ use Rattle.rule.specs.Contact.{when}
 use Rattle.rule.specs.EdgeTime.{rim}
 use Rattle.rule.specs.WallTime.{wallTime}
 use Rattle.rule.proofs.Existence.{cand-trans}
-use Rattle.rule.proofs.Known.{Beats}
+use Rattle.rule.specs.Meanwhile.{Beats}
 use Rattle.rule.proofs.Turn.{beats-better}
 use Rattle.causes.specs.declared.Cause.{Cause}
 use Rattle.causes.specs.Cause.{tipAt, wallAt, candOf, Fine, Stands}

@@ -19,7 +19,7 @@ use Rattle.rule.specs.EdgeTime.{rim}
 use Rattle.rule.specs.Motion.{Inside}
 use Rattle.rule.specs.Rows.{timeOf}
 use Rattle.rule.specs.Selection.{rollOf}
-use Rattle.rule.proofs.Turn.{Live}
+use Rattle.rule.specs.Meanwhile.{Live}
 use Rattle.lines.specs.Lines.{trackAt}
 use Rattle.lines.proofs.Places.{tracks-count, track-read}
 use Rattle.causes.specs.declared.Cause.{Cause}
@@ -35,9 +35,10 @@ use Rattle.turn.proofs.Counting.{counts-live, live-counts}
 use Rattle.cells.specs.declared.Cell.{Cell}
 use Rattle.cells.specs.Grid.{Figure, g1, g2, g4, g8, g16, g32, side}
 use Rattle.cells.specs.EnteredAt.{EnteredAt}
-use Rattle.cells.proofs.Count.{first, first-good, stay-rim}
-use Rattle.cells.proofs.Entered.{Entered, entered-first, entered-few}
-use Rattle.cells.proofs.Walk.{next}
+use Rattle.cells.specs.Walk.{first, next}
+use Rattle.cells.proofs.Count.{first-good, stay-rim}
+use Rattle.cells.specs.Entered.{Entered}
+use Rattle.cells.proofs.Entered.{entered-first, entered-few}
 use Rattle.heap.specs.declared.Key.{Key}
 use Rattle.heap.specs.Key.{time, NotAfter, keyAt}
 use Rattle.heap.specs.Queue.{Pushed, Popped}

@@ -7,7 +7,7 @@ use lib.ListN.{length, getD}
 use Rattle.sheet.specs.Accepted.{Accepted}
 use Rattle.sheet.specs.Listing.{Listing}
 use Rattle.rule.specs.declared.Row.{Row}
-use Rattle.rule.proofs.Turn.{Live}
+use Rattle.rule.specs.Meanwhile.{Live}
 use Rattle.lines.specs.Lines.{tracksIn, Tracked}
 use Rattle.causes.specs.Cause.{candOf}
 use Rattle.causes.specs.Looked.{Named}

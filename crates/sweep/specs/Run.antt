@@ -7,14 +7,14 @@ use Rattle.sheet.specs.Listing.{Listing}
 use Rattle.rule.specs.declared.Row.{Row}
 use Rattle.rule.specs.EdgeTime.{rim}
 use Rattle.rule.specs.Selection.{rollOf}
-use Rattle.rule.proofs.Turn.{Live}
+use Rattle.rule.specs.Meanwhile.{Live}
 use Rattle.row.specs.Written.{Written}
 use Rattle.lines.specs.Lines.{Lined}
 use Rattle.causes.specs.Cause.{tipAt, candOf}
 use Rattle.table.specs.Table.{causeAt}
 use Rattle.cells.specs.declared.Cell.{Cell}
 use Rattle.cells.specs.Grid.{Figure, side}
-use Rattle.cells.proofs.Entered.{Entered}
+use Rattle.cells.specs.Entered.{Entered}
 use Rattle.sweep.specs.State.{cellsAt, Looked, Marked, Ahead, Placed, Listed, Queued, Rows}
 
 -- b tips have begun, `count` cells have been entered, p events are pending

@@ -14,8 +14,7 @@ use Rattle.rule.specs.Contact.{when, hit, contact}
 use Rattle.rule.specs.EdgeTime.{rim}
 use Rattle.rule.specs.WallTime.{wallTime}
 use Rattle.rule.specs.Selection.{rollOf}
-use Rattle.rule.proofs.Known.{Beats}
-use Rattle.rule.proofs.Turn.{Progress}
+use Rattle.rule.specs.Meanwhile.{Beats, Progress}
 use Rattle.causes.specs.declared.Cause.{Cause}
 use Rattle.causes.specs.declared.Region.{Region}
 use Rattle.causes.specs.Cause.{tipAt, wallAt, candOf, Fine, Stands}
@@ -23,10 +22,9 @@ use Rattle.causes.specs.Looked.{Near, endAt, Ends, Named}
 use Rattle.table.specs.Table.{causeAt}
 use Rattle.cells.specs.declared.Cell.{Cell}
 use Rattle.cells.specs.Touched.{CellsOf}
-use Rattle.cells.specs.Cut.{past}
+use Rattle.cells.specs.Cut.{past, _<ᶜ_}
 use Rattle.cells.specs.OneCell.{entry}
-use Rattle.cells.proofs.Cut.{_<ᶜ_}
-use Rattle.cells.proofs.Entered.{Entered}
+use Rattle.cells.specs.Entered.{Entered}
 use Rattle.heap.specs.Key.{keyAt}
 use Rattle.heap.specs.Queue.{Pending, Absent, Present}
 use Rattle.pending.specs.Pending.{pendingKey}

@@ -6,7 +6,7 @@ use Prim.Native.Nat.{ℕ, zero, suc, _+_, _*_, _-_}
 use native.Mathlib.Decide.{ℕ-discrete}
 use lib.ListN.{getD}
 use Rattle.exact.specs.Time.{_≤ᵗ_, _<ᵗ_, fraction}
-use Rattle.exact.proofs.TimeOrder.{≤ᵗ-or-<ᵗ}
+use Rattle.exact.specs.Order.{≤ᵗ-or-<ᵗ}
 use Rattle.causes.specs.declared.Cause.{Cause}
 use Rattle.causes.specs.Looked.{endAt}
 use Rattle.table.specs.Table.{causeAt}

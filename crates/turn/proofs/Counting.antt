@@ -16,7 +16,7 @@ use Rattle.rule.specs.declared.Row.{Row}
 use Rattle.rule.specs.Contact.{contact}
 use Rattle.rule.proofs.OnSheet.{contact-of, contact-hit}
 use Rattle.rule.proofs.Selection.{up-fresh}
-use Rattle.rule.proofs.Turn.{Formal, Live}
+use Rattle.rule.specs.Meanwhile.{Formal, Live}
 use Rattle.causes.specs.declared.Cause.{Cause}
 use Rattle.causes.specs.Cause.{tipAt, whyOf, candOf, Stands}
 use Rattle.causes.specs.Looked.{endAt, Ends}

@@ -19,11 +19,11 @@ use Rattle.rule.specs.declared.Row.{Row}
 use Rattle.rule.specs.Causes.{Cand, rowOf, upTo}
 use Rattle.rule.specs.Rows.{time}
 use Rattle.rule.specs.Selection.{rollOf}
-use Rattle.rule.proofs.Running.{Fresh}
+use Rattle.rule.specs.Meanwhile.{Fresh, Progress}
 use Rattle.rule.proofs.Selection.{up-one}
 use Rattle.rule.proofs.Starts.{Ids}
 use Rattle.rule.proofs.Tests.{eqb-self}
-use Rattle.rule.proofs.Turn.{Progress, progress-begins}
+use Rattle.rule.proofs.Turn.{progress-begins}
 use Rattle.causes.specs.Cause.{tipAt, candOf}
 use Rattle.causes.specs.Looked.{endAt, Gone, Ends}
 use Rattle.table.specs.Table.{causeAt}

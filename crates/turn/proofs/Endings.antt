@@ -5,7 +5,8 @@ use Prim.Native.Nat.{ℕ, zero, suc, _≤_}
 use native.Mathlib.Omega.{arith}
 use Rattle.exact.specs.Time.{Time, _≤ᵗ_, _<ᵗ_, fraction}
 use Rattle.exact.specs.Small.{Small}
-use Rattle.exact.proofs.TimeOrder.{≤ᵗ-or-<ᵗ, <ᵗ-≤ᵗ-trans, <ᵗ-irrefl}
+use Rattle.exact.specs.Order.{≤ᵗ-or-<ᵗ}
+use Rattle.exact.proofs.TimeOrder.{<ᵗ-≤ᵗ-trans, <ᵗ-irrefl}
 use Rattle.sheet.specs.Accepted.{TrackOk}
 use Rattle.sheet.specs.Listing.{Listing}
 use Rattle.sheet.specs.declared.Track.{Track}

@@ -12,7 +12,8 @@ use Rattle.sheet.specs.Listing.{Listing}
 use Rattle.rule.specs.declared.Row.{Row}
 use Rattle.rule.specs.RowBytes.{rowBytes}
 use Rattle.rule.specs.Selection.{rollOf}
-use Rattle.rule.proofs.Turn.{Progress, progress-end}
+use Rattle.rule.specs.Meanwhile.{Progress}
+use Rattle.rule.proofs.Turn.{progress-end}
 use Rattle.row.specs.Written.{Written}
 use Rattle.row.proofs.Roll.{written-more}
 use Rattle.turn.specs.Ended.{nextRow}

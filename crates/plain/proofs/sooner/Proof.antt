@@ -2,7 +2,7 @@
 use mathlib.Core.Logic.{inl, inr}
 use mathlib.Core.Path.{refl, sym, _∙_}
 use native.Mathlib.Omega.{arith}
-use Rattle.exact.proofs.TimeOrder.{≈ᵗ-of}
+use Rattle.exact.specs.Order.{≈ᵗ-of}
 use Rattle.causes.proofs.First.{not-later, later}
 use Rattle.plain.specs.Key.{running, earlier, together}
 use borrow.Author.Needs.{needs}
