@@ -1,3 +1,3 @@
 pub mod Signed
-pub mod Lesser
+pub mod Choices
 pub mod Parts

@@ -7,19 +7,19 @@ use Prim.Native.Nat.{ℕ, _≤_}
 use native.Mathlib.Omega.{arith}
 use lib.Dec.{eqb, lit≤}
 use Rattle.sheet.specs.declared.Command.{Command}
-use Rattle.sheet.specs.Table.{table, firstBroken, any, tooMany, offSheet, wrongSpeed, equalEnds, sameId, startUsed, startOnWall, facingTips}
+use Rattle.sheet.specs.Table.{table, no-line, firstBroken, any, tooMany, offSheet, wrongSpeed, equalEnds, sameId, startUsed, startOnWall, facingTips}
 use Rattle.judge.specs.Judged.{aloneOf, clashOf, lesser, worstOf}
-use Rattle.judge.proofs.Lesser.{choice-above, lesser-right, lesser-is-right, lesser-assoc, lesser-choice}
+use Rattle.judge.proofs.Choices.{choice-above, lesser-right, lesser-is-right, lesser-assoc, lesser-choice}
 
 -- ---- the walk
 
-worst-small : (c : Command) (l : List Command) → worstOf c l ≤ 12
+worst-small : (c : Command) (l : List Command) → worstOf c l ≤ no-line
 unfolding worstOf
 worst-small c [] = omega arith
 worst-small c (d ∷ l) = omega (arith, lesser-right (clashOf c d) (worstOf c l), worst-small c l)
 
-pub worst-start : (c : Command) (l : List Command) → lesser 12 (worstOf c l) ≡ worstOf c l
-worst-start c l = lesser-is-right 12 (worstOf c l) (worst-small c l)
+pub worst-start : (c : Command) (l : List Command) → lesser no-line (worstOf c l) ≡ worstOf c l
+worst-start c l = lesser-is-right no-line (worstOf c l) (worst-small c l)
 
 pub worst-step : (w : ℕ) (c d : Command) (l : List Command) → lesser (lesser w (clashOf c d)) (worstOf c l) ≡ lesser w (worstOf c (d ∷ l))
 unfolding worstOf
@@ -28,7 +28,7 @@ worst-step w c d l = lesser-assoc w (clashOf c d) (worstOf c l)
 -- ---- the least clash goes by the lines in their order
 
 pick : Bool → Bool → Bool → Bool → ℕ
-pick p q r s = cond p 8 (cond q 9 (cond r 10 (cond s 11 12)))
+pick p q r s = cond p 8 (cond q 9 (cond r 10 (cond s 11 no-line)))
 
 pick-lesser : (p q r s p′ q′ r′ s′ : Bool) → lesser (pick p q r s) (pick p′ q′ r′ s′) ≡ pick (p || p′) (q || q′) (r || r′) (s || s′)
 unfolding pick
@@ -38,13 +38,13 @@ pick-lesser p q r s p′ q′ r′ s′ =
     ∙ ap (cond (q || q′) 9) (lesser-choice r r′ (ten s) (ten s′)
     ∙ ap (cond (r || r′) 10) (lesser-choice s s′ (lit≤ tt) (lit≤ tt))))
   where
-    ten : (s : Bool) → 10 ≤ cond s 11 12
+    ten : (s : Bool) → 10 ≤ cond s 11 no-line
     ten s = choice-above s (lit≤ tt) (lit≤ tt)
 
-    nine : (r s : Bool) → 9 ≤ cond r 10 (cond s 11 12)
+    nine : (r s : Bool) → 9 ≤ cond r 10 (cond s 11 no-line)
     nine r s = choice-above r (lit≤ tt) (omega (arith, ten s))
 
-    eight : (q r s : Bool) → 8 ≤ cond q 9 (cond r 10 (cond s 11 12))
+    eight : (q r s : Bool) → 8 ≤ cond q 9 (cond r 10 (cond s 11 no-line))
     eight q r s = choice-above q (lit≤ tt) (omega (arith, nine r s))
 
 worst-by-lines : (c : Command) (l : List Command) → worstOf c l ≡ pick (any (sameId c) l) (any (startUsed c) l) (any (startOnWall c) l) (any (facingTips c) l)
@@ -55,11 +55,11 @@ worst-by-lines c (d ∷ l) = rw (worst-by-lines c l) (pick-lesser (sameId c d) (
 -- ---- the table
 
 alone : Bool → Bool → Bool → ℕ
-alone a b e = cond a 4 (cond b 5 (cond e 6 0))
+alone a b e = cond a 4 (cond b 5 (cond e 6 no-line))
 
 by-parts : (t a b e p q r s : Bool) →
-    cond t 7 (cond a 4 (cond b 5 (cond e 6 (cond p 8 (cond q 9 (cond r 10 (cond s 11 0)))))))
-    ≡ cond t 7 (cond (eqb (alone a b e) 0) (cond (eqb (pick p q r s) 12) 0 (pick p q r s)) (alone a b e))
+    cond t 7 (cond a 4 (cond b 5 (cond e 6 (cond p 8 (cond q 9 (cond r 10 (cond s 11 no-line)))))))
+    ≡ cond t 7 (cond (eqb (alone a b e) no-line) (pick p q r s) (alone a b e))
 unfolding pick alone
 by-parts true a b e p q r s = refl
 by-parts false true b e p q r s = refl
@@ -74,7 +74,7 @@ by-parts false false false false false false false false = refl
 pub table-by-parts :
     (before : List Command) (c : Command) →
     firstBroken table before c
-    ≡ cond (tooMany before c) 7 (cond (eqb (aloneOf c) 0) (cond (eqb (worstOf c before) 12) 0 (worstOf c before)) (aloneOf c))
+    ≡ cond (tooMany before c) 7 (cond (eqb (aloneOf c) no-line) (worstOf c before) (aloneOf c))
 unfolding firstBroken table aloneOf alone
 table-by-parts before c =
     rw (worst-by-lines c before)

@@ -4,20 +4,20 @@ use mathlib.Core.List.{List, [], _∷_}
 use Prim.Native.Nat.{ℕ}
 use lib.Dec.{ltb}
 use Rattle.sheet.specs.declared.Command.{Command}
-use Rattle.sheet.specs.Table.{offSheet, wrongSpeed, equalEnds, sameId, startUsed, startOnWall, facingTips}
+use Rattle.sheet.specs.Table.{no-line, offSheet, wrongSpeed, equalEnds, sameId, startUsed, startOnWall, facingTips}
 
--- 4, 5 or 6, the first that the command breaks by itself; 0 for none
+-- 4, 5 or 6, the first that the command breaks by itself
 unfoldable pub aloneOf : Command → ℕ
-aloneOf c = cond (offSheet c) 4 (cond (wrongSpeed c) 5 (cond (equalEnds c) 6 0))
+aloneOf c = cond (offSheet c) 4 (cond (wrongSpeed c) 5 (cond (equalEnds c) 6 no-line))
 
--- the first of 8 to 11 that c breaks with d before it; 12, which is above them all, for none
+-- the first of 8 to 11 that c breaks with d before it
 unfoldable pub clashOf : Command → Command → ℕ
-clashOf c d = cond (sameId c d) 8 (cond (startUsed c d) 9 (cond (startOnWall c d) 10 (cond (facingTips c d) 11 12)))
+clashOf c d = cond (sameId c d) 8 (cond (startUsed c d) 9 (cond (startOnWall c d) 10 (cond (facingTips c d) 11 no-line)))
 
 abbrev pub lesser : ℕ → ℕ → ℕ
 lesser a b = cond (ltb b a) b a
 
 -- the least clash with the commands before
 unfoldable pub worstOf : Command → List Command → ℕ
-worstOf c [] = 12
+worstOf c [] = no-line
 worstOf c (d ∷ l) = lesser (clashOf c d) (worstOf c l)

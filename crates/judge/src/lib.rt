@@ -72,7 +72,10 @@ pub fn equal_ends(c: Command) -> bool
     }
 }
 
-// The first of 4, 5, 6 that the command breaks, 0 if none.
+// Stands for no line of the table: above every number of one.
+pub const NO_LINE: u8 = 255;
+
+// The first of 4, 5, 6 that the command breaks.
 pub fn alone(c: Command) -> u8
     ensures { λ r. ⌜ r ≡ aloneOf c ⌝ }
 {
@@ -85,7 +88,7 @@ pub fn alone(c: Command) -> u8
     if equal_ends(c) {
         return 6;
     }
-    0
+    NO_LINE
 }
 
 // b - a.
@@ -188,23 +191,23 @@ fn tracks_clash(a: Track, b: Track) -> u8
     if facing(a, b) {
         return 11;
     }
-    12
+    NO_LINE
 }
 
 // Of the two either may be the later.
 fn start_clash(a: Track, w: Wall) -> u8
-    ensures { λ r. ⌜ r ≡ cond (table.startOn a w) 10 12 ⌝ }
+    ensures { λ r. ⌜ r ≡ cond (table.startOn a w) 10 table.no-line ⌝ }
 {
-    if start_on(a, w) { 10 } else { 12 }
+    if start_on(a, w) { 10 } else { NO_LINE }
 }
 
 fn walls_clash(v: Wall, w: Wall) -> u8
     ensures { λ r. ⌜ r ≡ clashOf (Command.AddWall v) (Command.AddWall w) ⌝ }
 {
-    if v.id == w.id { 8 } else { 12 }
+    if v.id == w.id { 8 } else { NO_LINE }
 }
 
-// The first of 8 to 11 that c breaks with d before it, 12 if none.
+// The first of 8 to 11 that c breaks with d before it.
 pub fn clash(c: Command, d: Command) -> u8
     ensures { λ r. ⌜ r ≡ clashOf c d ⌝ }
 {
@@ -220,8 +223,7 @@ pub fn clash(c: Command, d: Command) -> u8
     }
 }
 
-// The lesser.
-pub fn sooner(a: u8, b: u8) -> u8
+pub fn lesser(a: u8, b: u8) -> u8
     ensures { λ r. ⌜ r ≡ lesser a b ⌝ }
 {
     if b < a { b } else { a }

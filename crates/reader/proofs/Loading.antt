@@ -14,7 +14,7 @@ use Rattle.sheet.specs.declared.Command.the-variants.{AddTrack, AddWall}
 use Rattle.sheet.specs.declared.Item.the-variants.{End, Add}
 use Rattle.sheet.specs.Format.{itemAt, width}
 use Rattle.sheet.specs.Listing.{tracksOf, wallsOf, listing}
-use Rattle.sheet.specs.Table.{table, firstBroken, tooMany}
+use Rattle.sheet.specs.Table.{table, no-line, firstBroken, tooMany}
 use Rattle.sheet.specs.Returned.{accepted}
 use Rattle.sheet.specs.Scan.{verdictOf, commandsOf}
 use Rattle.sheet.specs.HandedIn.{filled, noTrack, noWall, sheetOf}
@@ -122,7 +122,7 @@ module _ {s : List ℕ} {at : ℕ} {sheet : Sheet} (l : Loaded s at sheet) where
     there : itemAt s at ≡ Add c
     there = r ∙ ap Add k
 
-    next : (firstBroken table (l .before) c ≡ 0) × (verdictFrom s (at + width c) (l .before ++ (c ∷ [])) ≡ accepted)
+    next : (firstBroken table (l .before) c ≡ no-line) × (verdictFrom s (at + width c) (l .before ++ (c ∷ [])) ≡ accepted)
     next = accepted-add s at (l .before) c (l .ahead) there
 
     pub load-fits : (ofKind c (sheet .ntracks) (sheet .nwalls) < 256) × (at + width c ≤ length s)

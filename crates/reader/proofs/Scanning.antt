@@ -12,7 +12,7 @@ use Rattle.sheet.specs.declared.Command.the-variants.{AddTrack, AddWall}
 use Rattle.sheet.specs.declared.Item.the-variants.{Add}
 use Rattle.sheet.specs.Format.{itemAt, width}
 use Rattle.sheet.specs.Listing.{tracksOf, wallsOf}
-use Rattle.sheet.specs.Table.{table, firstBroken, tooMany}
+use Rattle.sheet.specs.Table.{table, no-line, firstBroken, tooMany}
 use Rattle.sheet.specs.Returned.{refused}
 use Rattle.sheet.specs.Scan.{verdictOf}
 use Rattle.sheet.proofs.Acceptance.{tracks-append, walls-append}
@@ -39,14 +39,11 @@ module _ {s : List ℕ} {at tracks walls : ℕ} {before : List Command} (h : SoF
     few : tooMany before c ≡ false
     few = many ∙ lt-leb _ _ g
 
-    pub breaks-alone : (aloneOf c ≡ 0 → ⊥) → aloneOf c ≡ firstBroken table before c
+    pub breaks-alone : (aloneOf c ≡ no-line → ⊥) → aloneOf c ≡ firstBroken table before c
     breaks-alone n = sym (table-by-parts before c ∙ simp (few, ne-eqb _ _ n))
 
-    pub breaks-none : aloneOf c ≡ 0 → worstOf c before ≡ 12 → 0 ≡ firstBroken table before c
-    breaks-none e f = sym (table-by-parts before c ∙ simp (few, eq-eqb _ _ e, eq-eqb _ _ f))
-
-    pub breaks-pair : aloneOf c ≡ 0 → (worstOf c before ≡ 12 → ⊥) → worstOf c before ≡ firstBroken table before c
-    breaks-pair e n = sym (table-by-parts before c ∙ simp (few, eq-eqb _ _ e, ne-eqb _ _ n))
+    pub breaks-pair : aloneOf c ≡ no-line → worstOf c before ≡ firstBroken table before c
+    breaks-pair e = sym (table-by-parts before c ∙ simp (few, eq-eqb _ _ e))
 
 -- ---- the loop
 
@@ -76,10 +73,10 @@ one-wall (AddTrack a) = refl
 one-wall (AddWall w) = refl
 
 module _ {s : List ℕ} {at tracks walls : ℕ} (h : Scanned s at tracks walls) (c : Command) (e : itemAt s at ≡ Add c) where
-  pub scanned-refused : {k : ℕ} → k ≡ firstBroken table (h .before) c → (k ≡ 0 → ⊥) → refused k at ≡ verdictOf s
+  pub scanned-refused : {k : ℕ} → k ≡ firstBroken table (h .before) c → (k ≡ no-line → ⊥) → refused k at ≡ verdictOf s
   scanned-refused q n = rw q (sym (from-add s at (h .before) c e ∙ simp (ne-eqb _ _ (λ z. n (q ∙ z)))) ∙ h .on)
 
-  pub scanned-more : firstBroken table (h .before) c ≡ 0 → Scanned s (at + width c) (tracks + ofKind c 1 0) (walls + ofKind c 0 1)
+  pub scanned-more : firstBroken table (h .before) c ≡ no-line → Scanned s (at + width c) (tracks + ofKind c 1 0) (walls + ofKind c 0 1)
   scanned-more n =
       let b = h .before in
       record {

@@ -12,7 +12,7 @@ use Rattle.sheet.specs.declared.Command.the-variants.{AddTrack, AddWall}
 use Rattle.sheet.specs.declared.Item.{Item}
 use Rattle.sheet.specs.declared.Item.the-variants.{Unknown, Cut, End, Add}
 use Rattle.sheet.specs.Format.{itemAt, width}
-use Rattle.sheet.specs.Table.{table, firstBroken}
+use Rattle.sheet.specs.Table.{table, no-line, firstBroken}
 use Rattle.sheet.specs.Returned.{Returned, accepted, refused}
 use Rattle.sheet.specs.Scan.{scan, atItem, andMore, commandsFrom}
 use Rattle.sheet.proofs.Encoded.{went-on}
@@ -37,13 +37,13 @@ fuel zero s at before h = let g : length s ≤ at = omega arith in rw (no-byte s
 fuel (suc n) s at before h = go (fuel n s) (itemAt s at)
   where
     turn : ℕ → Command → Returned
-    turn m c = let k = firstBroken table before c in cond (eqb k 0) (scan m s (at + width c) (before ++ (c ∷ []))) (refused k at)
+    turn m c = let k = firstBroken table before c in cond (eqb k no-line) (scan m s (at + width c) (before ++ (c ∷ []))) (refused k at)
 
     go : ((p : ℕ) (b : List Command) → length s ≤ n + p → scan n s p b ≡ scan (suc n) s p b) → (i : Item) → atItem s at (turn n) i ≡ atItem s at (turn (suc n)) i
     go ih Unknown = refl
     go ih Cut = refl
     go ih End = refl
-    go ih (Add c) = let k = firstBroken table before c in ap (λ (r : Returned). cond (eqb k 0) r (refused k at)) (ih (at + width c) (before ++ (c ∷ [])) (omega (arith, some-width c)))
+    go ih (Add c) = let k = firstBroken table before c in ap (λ (r : Returned). cond (eqb k no-line) r (refused k at)) (ih (at + width c) (before ++ (c ∷ [])) (omega (arith, some-width c)))
 
 commands-fuel : (n : ℕ) (s : List ℕ) (at : ℕ) → length s ≤ n + at → commandsFrom n s at ≡ commandsFrom (suc n) s at
 unfolding commandsFrom
@@ -78,12 +78,12 @@ module _ (s : List ℕ) (at : ℕ) where
     unfolding scan
     from-end e = rw e
 
-    pub from-add : (c : Command) → itemAt s at ≡ Add c → verdictFrom s at before ≡ (let k = firstBroken table before c in cond (eqb k 0) (verdictFrom s (at + width c) (before ++ (c ∷ []))) (refused k at))
+    pub from-add : (c : Command) → itemAt s at ≡ Add c → verdictFrom s at before ≡ (let k = firstBroken table before c in cond (eqb k no-line) (verdictFrom s (at + width c) (before ++ (c ∷ []))) (refused k at))
     unfolding scan
-    from-add c e = rw e (let k = firstBroken table before c in ap (λ (r : Returned). cond (eqb k 0) r (refused k at)) (fuel (length s) s (at + width c) (before ++ (c ∷ [])) (omega arith)))
+    from-add c e = rw e (let k = firstBroken table before c in ap (λ (r : Returned). cond (eqb k no-line) r (refused k at)) (fuel (length s) s (at + width c) (before ++ (c ∷ [])) (omega arith)))
 
 -- a command of an accepted sheet breaks nothing, and what follows it is accepted
-pub accepted-add : (s : List ℕ) (at : ℕ) (before : List Command) (c : Command) → verdictFrom s at before ≡ accepted → itemAt s at ≡ Add c → (firstBroken table before c ≡ 0) × (verdictFrom s (at + width c) (before ++ (c ∷ [])) ≡ accepted)
+pub accepted-add : (s : List ℕ) (at : ℕ) (before : List Command) (c : Command) → verdictFrom s at before ≡ accepted → itemAt s at ≡ Add c → (firstBroken table before c ≡ no-line) × (verdictFrom s (at + width c) (before ++ (c ∷ [])) ≡ accepted)
 accepted-add s at before c h e = went-on (firstBroken table before c) at _ (sym (from-add s at before c e) ∙ h)
 
 -- 00 or a whole command stands where the rest is accepted

@@ -6,9 +6,10 @@ use native.Mathlib.Omega.{arith}
 use Rattle.sheet.specs.declared.Command.{Command}
 use Rattle.sheet.specs.declared.Item.the-variants.{Add}
 use Rattle.sheet.specs.Format.{itemAt, width}
+use Rattle.sheet.specs.Table.{no-line}
 use Rattle.judge.specs.Judged.{clashOf, lesser, worstOf}
 use Rattle.reader.specs.Walk.{WholeAt, Walk}
-use Rattle.judge.proofs.Lesser.{lesser-left, lesser-is-left}
+use Rattle.judge.proofs.Choices.{lesser-left, lesser-is-left}
 use Rattle.judge.proofs.Parts.{worst-step, worst-start}
 use Rattle.reader.proofs.Turns.{some-width}
 
@@ -26,12 +27,12 @@ pub record Left (s : List ℕ) (p at : ℕ) (c : Command) (worst : ℕ) (before 
   pub walk : Walk s p at left
   pub least : lesser worst (worstOf c left) ≡ worstOf c before
 
--- so far, whatever commands stand before; 12 stands for no clash
+-- so far, whatever commands stand before
 pub record Clashed (s : List ℕ) (at : ℕ) (c : Command) (worst p : ℕ) : Type 0 where
-  pub small : worst ≤ 12
+  pub small : worst ≤ no-line
   pub still : (before : List Command) → Walk s 0 at before → Left s p at c worst before
 
-pub clashed-none : (s : List ℕ) (at : ℕ) (c : Command) → Clashed s at c 12 0
+pub clashed-none : (s : List ℕ) (at : ℕ) (c : Command) → Clashed s at c no-line 0
 clashed-none s at c = record { small = omega arith; still = λ l w. record { left = l; walk = w; least = worst-start c l } }
 
 module _ {s : List ℕ} {at : ℕ} {c : Command} {worst p : ℕ} (h : Clashed s at c worst p) where
@@ -65,5 +66,5 @@ module _ {s : List ℕ} {at : ℕ} {c : Command} {worst p : ℕ} (h : Clashed s 
       l = h .still before w
 
       go : (k : List Command) → Walk s p at k → lesser worst (worstOf c k) ≡ worstOf c before → worst ≡ worstOf c before
-      go [] v q = sym (lesser-is-left worst 12 (h .small)) ∙ q
+      go [] v q = sym (lesser-is-left worst no-line (h .small)) ∙ q
       go (d ∷ k) v q = absurd (omega (arith, some-width d, walk-on s (p + width d) at k (v .1)))

@@ -16,6 +16,7 @@ ghost use Rattle.sheet.specs.HandedIn.{sheetOf};
 ghost use Rattle.judge.specs.Judged.{worstOf};
 ghost use Rattle.reader.specs.Walk.{WholeAt, Walk, SoFar, ofKind};
 ghost use Rattle.reader.specs.Reading.{ReadFrom};
+use judge::NO_LINE;
 use sheet::Command;
 use sheet::Item;
 use sheet::Sheet;
@@ -100,17 +101,17 @@ fn bytes_of(c: Command) -> usize
     }
 }
 
-// The least of 8 to 11 that a command breaks with one before it, 12 if none. Those before are read again from the bytes:
+// The least of 8 to 11 that a command breaks with one before it. Those before are read again from the bytes:
 // no array of records is kept.
 fn clash_before(s: &[u8], at: usize, c: Command) -> u8
     requires { ⌜ ((before : List Command) × Walk (now s) 0 at before) ⌝ }
     ensures { λ r. ⌜ ((before : List Command) → Walk (now (s .entry)) 0 at before → r ≡ worstOf c before) ⌝ }
 {
-    let mut worst: u8 = 12;
+    let mut worst = NO_LINE;
     let mut p: usize = 0;
     while p < at {
         let d = command_at(s, p);
-        worst = judge::sooner(worst, judge::clash(c, d));
+        worst = judge::lesser(worst, judge::clash(c, d));
         p += bytes_of(d);
     }
     worst
@@ -126,7 +127,7 @@ fn of_kind(c: Command, tracks: usize, walls: usize) -> usize
     }
 }
 
-// The number of the first line of the table that the command at a place breaks, 0 if none.
+// The number of the first line of the table that the command at a place breaks.
 fn judge_at(s: &[u8], at: usize, tracks: usize, walls: usize, c: Command) -> u8
     requires { ⌜ ((before : List Command) × SoFar (now s) at tracks walls before) ⌝ }
     ensures { λ r. ⌜ ((before : List Command) → SoFar (now (s .entry)) at tracks walls before → r ≡ firstBroken table before c) ⌝ }
@@ -135,14 +136,10 @@ fn judge_at(s: &[u8], at: usize, tracks: usize, walls: usize, c: Command) -> u8
         return 7;
     }
     let alone = judge::alone(c);
-    if alone != 0 {
+    if alone != NO_LINE {
         return alone;
     }
-    let worst = clash_before(s, at, c);
-    if worst == 12 {
-        return 0;
-    }
-    worst
+    clash_before(s, at, c)
 }
 
 // The verdict at 00: 3 if bytes follow it.
@@ -171,7 +168,7 @@ pub fn scan(s: &[u8]) -> Verdict
             Item::End => return end_at(s, at),
             Item::Add(c) => {
                 let broken = judge_at(s, at, tracks, walls, c);
-                if broken != 0 {
+                if broken != NO_LINE {
                     return Verdict::Refused(broken, at);
                 }
                 at += bytes_of(c);

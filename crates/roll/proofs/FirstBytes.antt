@@ -19,7 +19,7 @@ use Rattle.sheet.specs.Format.{itemAt, width, trackAt, wallAt}
 use Rattle.sheet.specs.Listing.{tracksOf, wallsOf}
 use Rattle.sheet.specs.Returned.{Returned, accepted, refused}
 use Rattle.sheet.specs.Scan.{atItem, scan, verdictOf}
-use Rattle.sheet.specs.Table.{table, firstBroken, tooMany}
+use Rattle.sheet.specs.Table.{table, no-line, firstBroken, tooMany}
 use Rattle.sheet.proofs.Acceptance.{clear, tracks-append, walls-append}
 use Rattle.sheet.proofs.Encoded.{went-on}
 
@@ -96,7 +96,7 @@ chosen Z true f = f refl
 chosen Z false f = refl
 
 -- a command that breaks no rule is counted with those before it
-next : {before : List Command} {at : ℕ} → Counted before at → (c : Command) → eqb (firstBroken table before c) 0 ≡ true → Counted (before ++ (c ∷ [])) (at + width c)
+next : {before : List Command} {at : ℕ} → Counted before at → (c : Command) → eqb (firstBroken table before c) no-line ≡ true → Counted (before ++ (c ∷ [])) (at + width c)
 next {before} k c e = one-more k c (clear before c (eqb-true (firstBroken table before c) 0 e) .room)
 
 module _ (s : List ℕ) (n : ℕ) (h : 5131 ≤ n) (k : n ≤ length s) where
@@ -117,7 +117,7 @@ module _ (s : List ℕ) (n : ℕ) (h : 5131 ≤ n) (k : n ≤ length s) where
       (at-item at _ _ l
       (λ d.
       let b = length-append before (d ∷ []) in
-      chosen (refused (firstBroken table before d) at) (eqb (firstBroken table before d) 0)
+      chosen (refused (firstBroken table before d) at) (eqb (firstBroken table before d) no-line)
       (λ e. same-scan f g (at + width d) (before ++ (d ∷ [])) (next c d e) (omega arith) (omega arith)))
       (itemAt s at))
 

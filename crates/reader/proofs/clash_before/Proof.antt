@@ -22,8 +22,8 @@ command-at-requires c κs = clashed-whole (c .before .loop .inv) (c .before .bef
 clash-requires : tie.Need-clash-requires Inv-loop μ-loop
 clash-requires c κs = search needs
 
-sooner-requires : tie.Need-sooner-requires Inv-loop μ-loop
-sooner-requires c κs = search needs
+lesser-requires : tie.Need-lesser-requires Inv-loop μ-loop
+lesser-requires c κs = search needs
 
 bytes-of-requires : tie.Need-bytes-of-requires Inv-loop μ-loop
 bytes-of-requires c κs = search needs
@@ -44,7 +44,7 @@ loop-again : tie.Need-loop-again Inv-loop μ-loop
 loop-again c =
     let h = c .before .before .before .before .before .loop .inv in
     let m = clashed-more h _ (c .before .before .before .before .loop-test .taken) (c .before .before .before .command-at .ensures) in
-    rw (c .bytes-of .ensures, c .before .sooner .ensures, c .before .before .clash .ensures) m
+    rw (c .bytes-of .ensures, c .before .lesser .ensures, c .before .before .clash .ensures) m
 
 returns : tie.Need-returns Inv-loop μ-loop
 returns c = clashed-all (c .before .loop .inv) (c .loop-test .left)
@@ -58,7 +58,7 @@ clash-before-spec =
     loop-holds
     command-at-requires
     clash-requires
-    sooner-requires
+    lesser-requires
     bytes-of-requires
     add-p
     loop-less

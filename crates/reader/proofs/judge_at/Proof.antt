@@ -1,7 +1,7 @@
 -- The table's lines in the order of SHEETS 3.4: the count, the command by itself, the commands before it.
 use borrow.Author.Needs.{needs}
 use mathlib.Core.Path.{sym, _∙_}
-use Rattle.reader.proofs.Scanning.{breaks-count, breaks-alone, breaks-none, breaks-pair}
+use Rattle.reader.proofs.Scanning.{breaks-count, breaks-alone, breaks-pair}
 use Rattle.reader.proofs.judge_at.Statement.{statement}
 use Rattle.reader.proofs.judge_at.Tie as tie
 
@@ -27,17 +27,9 @@ clash-before-requires c κs = (c .before .before .before .before .before .pre .0
 returns-3 : tie.Need-returns-3
 returns-3 c =
     λ before b.
-    let few = rw (c .before .before .before .before .before .of-kind .ensures) at (c .before .before .before .before .if1 .left) in
-    let alone = sym (c .before .before .before .alone .ensures) ∙ c .before .before .if2 .left in
-    breaks-none b _ few alone (sym (c .before .clash-before .ensures before (b .walk)) ∙ c .if3 .taken)
-
-returns-4 : tie.Need-returns-4
-returns-4 c =
-    λ before b.
-    let few = rw (c .before .before .before .before .before .of-kind .ensures) at (c .before .before .before .before .if1 .left) in
-    let alone = sym (c .before .before .before .alone .ensures) ∙ c .before .before .if2 .left in
-    let worst = c .before .clash-before .ensures before (b .walk) in
-    worst ∙ breaks-pair b _ few alone (λ z. c .if3 .left (worst ∙ z))
+    let few = rw (c .before .before .before .before .of-kind .ensures) at (c .before .before .before .if1 .left) in
+    let alone = sym (c .before .before .alone .ensures) ∙ c .before .if2 .left in
+    c .clash-before .ensures before (b .walk) ∙ breaks-pair b _ few alone
 
 pub judge-at-spec : {M : Type 1} → statement M
 judge-at-spec =
@@ -48,5 +40,4 @@ judge-at-spec =
     alone-requires
     returns-2
     clash-before-requires
-    returns-3
-    returns-4)
+    returns-3)
