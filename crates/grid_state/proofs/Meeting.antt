@@ -45,15 +45,15 @@ record Look (S : Listing) (F : Frame) (side j q : ℕ) (marks : List (List ℕ))
   live : (k : ℕ) → Runs (F .begun) ts k → LiveCause S (F .done) (tipIn ts k .best) → LiveCause S (F .done) (tipIn ts′ k .best)
 
 -- the tips and the queue changed, the marks not yet
-abbrev unmarked : Crowd → List Tip → Slots → Crowd
+abbrev pub unmarked : Crowd → List Tip → Slots → Crowd
 unmarked w ts s = record { tips = ts; pending = s; marks = w .marks }
 
 -- the tip at j, if it runs, has looked at the tip at i
-record Noted (S : Listing) (F : Frame) (side i j : ℕ) (w : Crowd) (ts′ : List Tip) (s′ : Slots) : Type 0 where
-  busy : Busy S F side i (unmarked w ts′ s′)
-  later : Later S (F .begun) (F .done) w (unmarked w ts′ s′)
-  own-same : tipIn ts′ i .best ≡ tipIn (w .tips) i .best
-  beats : Runs (F .begun) ts′ j → tipAt S i .id ≢ tipAt S j .id → Beats (F .done) (candOf S (tipIn ts′ j .best)) (tipAt S j) (tipAt S i)
+pub record Noted (S : Listing) (F : Frame) (side i j : ℕ) (w : Crowd) (ts′ : List Tip) (s′ : Slots) : Type 0 where
+  pub busy : Busy S F side i (unmarked w ts′ s′)
+  pub later : Later S (F .begun) (F .done) w (unmarked w ts′ s′)
+  pub own-same : tipIn ts′ i .best ≡ tipIn (w .tips) i .best
+  pub beats : Runs (F .begun) ts′ j → tipAt S i .id ≢ tipAt S j .id → Beats (F .done) (candOf S (tipIn ts′ j .best)) (tipAt S j) (tipAt S i)
 
 -- they have looked at each other, and have marks
 pub record Beside (S : Listing) (F : Frame) (side i j : ℕ) (w w′ : Crowd) : Type 0 where
@@ -127,7 +127,7 @@ module _ {S : Listing} {F : Frame} {side i : ℕ} {w : Crowd} (z : Busy S F side
   look-own j h o = busy-on (look i j (z .runs) h o) (w .pending) (subst (λ (ts : List Tip). Queued S side (F .begun) i ts (w .pending)) (sym (o .stored)) (queue-own (z .queued) _))
 
   -- the tip at j, if it runs, looks at it
-  look-other : (j : ℕ) → j < F .begun → j ≢ i → {ts′ : List Tip} {s′ : Slots} → Noticed S side i j (w .tips) (w .pending) ts′ s′ → Noted S F side i j w ts′ s′
+  pub look-other : (j : ℕ) → j < F .begun → j ≢ i → {ts′ : List Tip} {s′ : Slots} → Noticed S side i j (w .tips) (w .pending) ts′ s′ → Noted S F side i j w ts′ s′
   look-other j h n {ts′} {s′} (has-ended x e f) =
       subst (λ (ts : List Tip). Noted S F side i j w ts s′) (sym e)
       (subst (λ (s : Slots). Noted S F side i j w (w .tips) s) (sym f)
