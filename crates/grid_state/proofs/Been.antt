@@ -1,0 +1,28 @@
+-- Where a tip has been: `cell-near`, `been-in`.
+use mathlib.Core.List.{List}
+use Prim.Native.Nat.{ℕ}
+use native.Mathlib.Numerals.{add-one}
+use Rattle.exact.specs.Time.{Time, _≤ᵗ_}
+use Rattle.sheet.specs.declared.Track.{Track}
+use Rattle.sheet.specs.declared.Wall.{Wall}
+use Rattle.sheet.specs.Listing.{_∈_}
+use Rattle.rule.specs.Motion.{OnWall}
+use Rattle.causes.specs.Looked.{Near}
+use Rattle.causes.proofs.Near.{near-on}
+use Rattle.cells.specs.declared.Cell.{Cell}
+use Rattle.cells.specs.Cut.{past}
+use Rattle.cells.specs.Grid.{InCell}
+use Rattle.cells.specs.OneCell.{exit}
+use Rattle.cells.proofs.Cut.{_≤ᶜ_, not-past}
+use Rattle.cells.proofs.Entered.{Entered}
+use Rattle.cells.proofs.Entry.{cell-entry, cell-exit}
+use Rattle.grid_steps.specs.Steps.{regionOf}
+
+-- a wall that a tip is on in a cell is near the cell
+pub cell-near : {a : Track} {side : ℕ} {k : Cell} {t : Time} {w : Wall} → InCell a side k t → OnWall a t w → Near (regionOf side k) w
+cell-near {a} {side} {k} {t} {w} i o = near-on (regionOf side k) o (i .in-column .low) (rw add-one (i .in-column .high)) (i .in-row .low) (rw add-one (i .in-row .high))
+
+-- a cell in which a tip is before it leaves the one where it stands has been entered
+pub been-in : {a : Track} {L : Time} {side : ℕ} {k m : Cell} {l : List Cell} {t v : Time} → Entered a L side k l → past t ≤ᶜ exit a side k → v ≤ᵗ t → InCell a side m v → m ∈ l
+been-in {a} {L} {side} {k} {m} {l} {t} {v} e h le i =
+    e .all m (record { at = v; above = cell-entry i; below = cell-exit i }) (record { at = v; above = cell-entry i; below = λ x. not-past le (h .to v x) })
