@@ -96,6 +96,7 @@ pub record Placed (S : Listing) (done : List Row) (side : ℕ) (es : List (List 
 
 -- the tips of each cell, and how many cells have been entered
 pub record Listed (es : List (List Cell)) (b : ℕ) (members : List (List ℕ)) (count : ℕ) : Type 0 where
+  pub long : length members ≡ 1024
   pub inside : (j : ℕ) (k : Cell) → j < b → k ∈ cellsAt es j → codeOf k < 1024
   pub member : (j : ℕ) (k : Cell) → j < b → k ∈ cellsAt es j → j ∈ getD members (codeOf k) []
   pub only : (c j : ℕ) → c < 1024 → j ∈ getD members c [] → j < b
