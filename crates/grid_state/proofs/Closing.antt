@@ -6,7 +6,7 @@ use mathlib.Core.Path.{_≡_, refl, sym, ap, _∙_, subst}
 use Prim.Native.Nat.{ℕ, suc, _≤_, _<_}
 use native.Mathlib.Decide.{ℕ-discrete, decLt}
 use native.Mathlib.Omega.{arith}
-use lib.ListN.{length, getD, take}
+use lib.ListN.{length, getD}
 use lib.Dec.{eqb}
 use Rattle.exact.specs.Time.{Time, _≈ᵗ_, zeroᵗ}
 use Rattle.exact.proofs.TimeOrder.{≈ᵗ-sym}

@@ -22,7 +22,6 @@ use Rattle.causes.specs.Looked.{Gone}
 use Rattle.turn.proofs.Ended.{apart}
 use Rattle.tips.specs.Tips.{Tip, tipIn, withEnd}
 use Rattle.look.specs.Ends.{endOf, Ends}
-use Rattle.grid_state.specs.State.{Runs}
 use Rattle.grid_state.proofs.Stores.{at-put}
 
 -- a tip without a row runs

@@ -33,11 +33,11 @@ use Rattle.event_queue.specs.declared.Event.{Event}
 use Rattle.event_queue.specs.declared.Event.the-variants as event
 use Rattle.event_queue.specs.declared.Key.{Key}
 use Rattle.event_queue.specs.Key.{time}
-use Rattle.event_queue.specs.Queue.{Slots, slot, First, Free}
+use Rattle.event_queue.specs.Queue.{Slots, First, Free}
 use Rattle.pending_entries.specs.Pending.{eventOf}
-use Rattle.tips.specs.Tips.{Tip, tipIn, withBest, withEnd}
-use Rattle.look.specs.Counts.{Counts, MayTell, stale}
-use Rattle.look.specs.Tracks.{Flagged, MayLookOn, LookedAgain}
+use Rattle.tips.specs.Tips.{Tip, tipIn, withEnd}
+use Rattle.look.specs.Counts.{Counts, no-track, MayTell, stale}
+use Rattle.look.specs.Tracks.{MayLookOn, LookedAgain}
 use Rattle.pair_marks.specs.Marks.{Marked}
 use Rattle.grid_steps.specs.Steps.{InGrid, MayEnter, entryIn}
 use Rattle.grid_state.specs.Sweep.{Sweep}
@@ -301,6 +301,13 @@ module _ {S : Listing} {g k : ℕ} {w : Sweep} (go : Going S g k w) {r : ℕ} {e
   -- a cause that is not stale counts
   pub fresh-counts : stale (w .crowd .tips) r ≡ false → Counts (w .crowd .tips) (tipIn (w .crowd .tips) r .best)
   fresh-counts = sure-counts (st .accepted) (st .looked) r event-runs
+
+  -- a wall and the edge always count
+  pub wall-counts : {x : ℕ} → e ≡ event.Wall x → Counts (w .crowd .tips) (tipIn (w .crowd .tips) r .best)
+  wall-counts c = no-track (λ z. omega (arith, wall-event c .1))
+
+  pub edge-counts : e ≡ event.Edge → Counts (w .crowd .tips) (tipIn (w .crowd .tips) r .best)
+  edge-counts c = no-track (edge-event c .1)
 
   module _ (late : entryIn S (side g) (w .crowd .tips) r .key .late ≡ 1) (counts : Counts (w .crowd .tips) (tipIn (w .crowd .tips) r .best)) where
     live : LiveCause S done cause

@@ -2,7 +2,7 @@
 use mathlib.Core.Bool.{Bool, true, false}
 use mathlib.Core.List.{List}
 use mathlib.Core.Path.{_≡_, refl, sym, _∙_}
-use Prim.Native.Nat.{ℕ, _<_}
+use Prim.Native.Nat.{ℕ}
 use native.Mathlib.Decide.{ℕ-discrete}
 use native.Mathlib.Omega.{arith}
 use lib.ListN.{length}
@@ -14,7 +14,7 @@ use Rattle.rule.specs.declared.Row.{Row}
 use Rattle.causes.specs.Cause.{tipAt, Stands}
 use Rattle.cells.specs.declared.Cell.{Cell}
 use Rattle.tips.specs.Tips.{Tip, tipIn}
-use Rattle.look.specs.Counts.{Counts, MayTell, stale, Stale}
+use Rattle.look.specs.Counts.{Counts, MayTell, stale}
 use Rattle.look.proofs.Counting.{stale-means, stale-ended, counts-live, live-counts}
 use Rattle.grid_state.specs.State.{Runs, Looked}
 use Rattle.grid_state.specs.Meeting.{LiveCause}
