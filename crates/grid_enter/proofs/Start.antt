@@ -12,7 +12,7 @@ use Rattle.causes.specs.Offer.{AtEdge}
 use Rattle.causes.proofs.Looking.{OfEdge, edge-first}
 use Rattle.cells.specs.declared.Cell.{Cell}
 use Rattle.cells.specs.Grid.{Figure, g1, g2, g4, g8, g16, g32, side}
-use Rattle.cells.proofs.Count.{first}
+use Rattle.cells.specs.Walk.{first}
 use Rattle.tips.specs.Tips.{Tip, withBest, withBase}
 use Rattle.grid_state.specs.Sweep.{Sweep, Swept}
 use Rattle.grid_state.specs.Meeting.{Enters}

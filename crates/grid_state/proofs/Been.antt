@@ -10,11 +10,11 @@ use Rattle.rule.specs.Motion.{OnWall}
 use Rattle.causes.specs.Looked.{Near}
 use Rattle.causes.proofs.Near.{near-on}
 use Rattle.cells.specs.declared.Cell.{Cell}
-use Rattle.cells.specs.Cut.{past}
+use Rattle.cells.specs.Cut.{past, _≤ᶜ_}
 use Rattle.cells.specs.Grid.{InCell}
 use Rattle.cells.specs.OneCell.{exit}
-use Rattle.cells.proofs.Cut.{_≤ᶜ_, not-past}
-use Rattle.cells.proofs.Entered.{Entered}
+use Rattle.cells.proofs.Cut.{not-past}
+use Rattle.cells.specs.Entered.{Entered}
 use Rattle.cells.proofs.Entry.{cell-entry, cell-exit}
 use Rattle.grid_steps.specs.Steps.{regionOf}
 

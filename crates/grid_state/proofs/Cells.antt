@@ -14,7 +14,7 @@ use Rattle.rule.specs.declared.Row.{Row}
 use Rattle.rule.specs.Causes.{by-side, Below, _≼_}
 use Rattle.rule.specs.Contact.{when}
 use Rattle.rule.specs.WallTime.{wallTime}
-use Rattle.rule.proofs.Running.{Fresh}
+use Rattle.rule.specs.Meanwhile.{Fresh}
 use Rattle.rule.proofs.Turn.{beats-better}
 use Rattle.causes.specs.declared.Cause.{Cause}
 use Rattle.causes.specs.Cause.{tipAt, wallAt, candOf, Fine, Stands}

@@ -8,7 +8,8 @@ use native.Mathlib.Omega.{arith}
 use lib.ListN.{length, getD, set, length-set}
 use lib.Seq.{getD-set-same, getD-set-other}
 use Rattle.exact.specs.Time.{Time, _≤ᵗ_, _<ᵗ_}
-use Rattle.exact.proofs.TimeOrder.{≤ᵗ-trans, ≤ᵗ-or-<ᵗ, <ᵗ→≤ᵗ, ≈ᵗ→≤ᵗ, ≤ᵗ-refl, <ᵗ-≤ᵗ-trans, <ᵗ-irrefl, zero-first}
+use Rattle.exact.specs.Order.{≤ᵗ-or-<ᵗ}
+use Rattle.exact.proofs.TimeOrder.{≤ᵗ-trans, <ᵗ→≤ᵗ, ≈ᵗ→≤ᵗ, ≤ᵗ-refl, <ᵗ-≤ᵗ-trans, <ᵗ-irrefl, zero-first}
 use Rattle.sheet.specs.declared.Track.{Track}
 use Rattle.sheet.specs.Accepted.{Accepted}
 use Rattle.sheet.specs.HandedIn.{noTrack, noWall}
@@ -24,14 +25,16 @@ use Rattle.rule.proofs.OnSheet.{rim-inside, contact-of, contact-hit, wall-of, w
 use Rattle.causes.specs.Cause.{tipAt, wallAt, candOf}
 use Rattle.cells.specs.declared.Cell.{Cell}
 use Rattle.cells.specs.Grid.{Figure, side, InCell}
-use Rattle.cells.specs.Cut.{Cut, past}
+use Rattle.cells.specs.Cut.{Cut, past, _≤ᶜ_, _<ᶜ_}
 use Rattle.cells.specs.OneCell.{entry, exit}
-use Rattle.cells.proofs.Cut.{_≤ᶜ_, _<ᶜ_, not-past, by-past, ≤ᶜ-or-<ᶜ, ≤ᶜ-trans, ≤ᶜ-<ᶜ-trans, after-mono, sooner-by}
-use Rattle.cells.proofs.Count.{first, first-in, stay-rim, figure-side}
-use Rattle.cells.proofs.Entered.{Entered, entered-next}
+use Rattle.cells.proofs.Cut.{not-past, by-past, ≤ᶜ-or-<ᶜ, ≤ᶜ-trans, ≤ᶜ-<ᶜ-trans, after-mono, sooner-by}
+use Rattle.cells.specs.Walk.{first, next}
+use Rattle.cells.proofs.Count.{first-in, stay-rim, figure-side}
+use Rattle.cells.specs.Entered.{Entered, Good}
+use Rattle.cells.proofs.Entered.{entered-next}
 use Rattle.cells.proofs.Entry.{cell-entry, point-of, past-before, before-past}
 use Rattle.cells.proofs.Points.{shared, placed, in-grid}
-use Rattle.cells.proofs.Walk.{next, Good, Stepped, stepped}
+use Rattle.cells.proofs.Walk.{Stepped, stepped}
 use Rattle.event_queue.specs.Key.{NotAfter}
 use Rattle.pending_entries.proofs.Order.{own-entry, leads-entry}
 use Rattle.tips.specs.Tips.{Tip, tipIn, withCell}

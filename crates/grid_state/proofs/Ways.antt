@@ -20,8 +20,10 @@ use Rattle.causes.specs.Cause.{tipAt, Fine, Least}
 use Rattle.causes.proofs.Looking.{OfEdge, walls-live}
 use Rattle.cells.specs.declared.Cell.{Cell}
 use Rattle.cells.specs.Grid.{Figure, side}
-use Rattle.cells.proofs.Count.{first, first-good}
-use Rattle.cells.proofs.Entered.{Entered, entered-first}
+use Rattle.cells.specs.Walk.{first}
+use Rattle.cells.proofs.Count.{first-good}
+use Rattle.cells.specs.Entered.{Entered}
+use Rattle.cells.proofs.Entered.{entered-first}
 use Rattle.event_queue.specs.Queue.{Slots, Free}
 use Rattle.tips.specs.Tips.{Tip, tipIn, withBest, withBase, withCell}
 use Rattle.pair_marks.specs.Marks.{Marked}
