@@ -1,0 +1,87 @@
+-- The tip at i, on its way, and the tip at j look at each other: what the steps ask, and what they give. Main theorems: `is-noticed`, `is-paired`.
+use mathlib.Core.Logic.{_≢_, inl, inr}
+use mathlib.Core.List.{List, [], _∷_, List·Memᴰ·head}
+use mathlib.Core.Option.{some}
+use mathlib.Core.Path.{_≡_, refl, sym, _∙_}
+use Prim.Native.Nat.{ℕ, _<_}
+use native.Mathlib.Omega.{arith}
+use lib.ListN.{set}
+use Rattle.sheet.specs.Listing.{Listing}
+use Rattle.event_queue.specs.Queue.{Slots, Queue, slots, Held, Holds}
+use Rattle.tips.specs.Tips as tips
+use Rattle.tips.specs.Tips.{Tip, tipIn, tipsIn}
+use Rattle.pair_marks.specs.Marks as marks
+use Rattle.pair_marks.specs.Marks.{Marked, marksIn, marking}
+use Rattle.grid_steps.specs.Steps.{MayLook, MayEnter, Offered, entryIn}
+use Rattle.grid_state.specs.Sweep.{Crowd, crowdIn, Crowded}
+use Rattle.grid_state.specs.State.{Runs}
+use Rattle.grid_state.specs.Meeting.{Noticed, looks, has-ended, Both, Paired, known, looked, Frame, Busy, MayMeet}
+use Rattle.grid_state.proofs.Meeting.{begun-place, look-own, look-other}
+use Rattle.grid_meet.specs.Meeting.{MayNotice}
+
+module _ {S : Listing} {F : Frame} {side i : ℕ} {w : Crowd} (z : Busy S F side i w) where
+  -- the tip at j may look at the tip at q
+  pub may-look : (j q : ℕ) → j < F .begun → q < F .begun → MayLook S (w .tips) j q
+  may-look j q h k =
+      record { tip-in = begun-place z j h .0; other-in = begun-place z q k .0; fine = z .looked .fine j h; end-fine = z .looked .fine q k }
+
+  -- the tip at j has a pending event
+  pub may-enter : (j : ℕ) → Runs (F .begun) (w .tips) j → j ≢ i → MayEnter S side (w .tips) j
+  may-enter j r n =
+      record {
+        tip-in = begun-place z j (r .0) .0;
+        in-grid = z .in-grid j (r .0) n;
+        fine = z .looked .fine j (r .0);
+        id-in = z .looked .best j r .walls .stands .id-in;
+      }
+
+-- ---- the tip at j looks at the tip at i
+
+module _ {S : Listing} {side i j : ℕ} {ts : List Tip} {s : Slots} (m : MayNotice S side i j ts s) where
+  pub notice-look : MayLook S ts j i
+  notice-look = may-look (m .busy) j i (m .begun) (m .busy .runs .0)
+
+  pub notice-in : j < 256
+  notice-in = begun-place (m .busy) j (m .begun) .1
+
+  module _ (r : tipIn ts j .ended ≡ 0) where
+    pub notice-held : Held s j
+    notice-held = record { old = entryIn S side ts j; held = m .busy .queued .due j (m .begun, r) (m .apart) }
+
+    pub notice-enter : {ts′ : List Tip} → Offered S j i ts ts′ → MayEnter S side ts′ j
+    notice-enter {ts′} o =
+        let b = look-other (m .busy) j (m .begun) (m .apart) {s′ = set s j (some (entryIn S side ts′ j))} (looks r o refl) in
+        may-enter (b .busy) j (m .begun, b .later .ended-same j ∙ r) (m .apart)
+
+pub is-noticed : {S : Listing} {side i j : ℕ} {ts ts′ : List Tip} {s : Slots} {q : List ℕ} → tipIn ts j .ended ≡ 0 → Offered S j i ts ts′ → Holds q (set s j (some (entryIn S side ts′ j)))
+    → Queue q × Noticed S side i j ts s ts′ (slots q)
+is-noticed r o h = (h .queue, looks r o (h .holds))
+
+-- ---- both, once
+
+module _ {S : Listing} {side i j : ℕ} {t q k : List ℕ} (c : Crowded (MayMeet S side i (j ∷ [])) t q k) where
+  other-in : j < c .holds .frame .begun
+  other-in = c .holds .others-in j (List·Memᴰ·head refl)
+
+  pub pair-in : (i < 256) × (j < 256)
+  pair-in = let b = c .holds .busy in (begun-place b i (b .runs .0) .1, begun-place b j other-in .1)
+
+  pub pair-look : MayLook S (tipsIn t) i j
+  pair-look = let b = c .holds .busy in may-look b i j (b .runs .0) other-in
+
+  pub pair-notice : j ≢ i → {ts′ : List Tip} → Offered S i j (tipsIn t) ts′ → MayNotice S side i j ts′ (slots q)
+  pair-notice n o = record { frame = c .holds .frame; marks = marksIn k; busy = look-own (c .holds .busy) j other-in o; begun = other-in; apart = n }
+
+  as-were : {P : Crowd → Type 0} → P (crowdIn t q k) → Crowded P t q k
+  as-were p = record { tips-room = c .tips-room; queue = c .queue; marks-room = c .marks-room; holds = p }
+
+  pub self-paired : j ≡ i → Crowded (Paired S side i j (crowdIn t q k)) t q k
+  self-paired e = as-were (known (inl e) refl)
+
+  pub known-paired : Marked (marksIn k) i j → Crowded (Paired S side i j (crowdIn t q k)) t q k
+  known-paired x = as-were (known (inr x) refl)
+
+  pub is-paired : {t′ q′ k′ : List ℕ} {between : List Tip} → j ≢ i → Offered S i j (tipsIn t) between → Queue q′ × Noticed S side i j between (slots q) (tipsIn t′) (slots q′)
+      → marksIn k′ ≡ marking (marking (marksIn k) i j) j i → tips.Room t′ → marks.Room k′ → Crowded (Paired S side i j (crowdIn t q k)) t′ q′ k′
+  is-paired {between = between} n o (h, x) e a b =
+      record { tips-room = a; queue = h; marks-room = b; holds = looked n (record { between = between; own = o; other = x; marks = e }) }
