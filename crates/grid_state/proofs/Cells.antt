@@ -11,11 +11,9 @@ use Rattle.sheet.specs.declared.Track.{Track}
 use Rattle.sheet.specs.declared.Wall.{Wall}
 use Rattle.sheet.specs.Listing.{Listing, _∈_}
 use Rattle.rule.specs.declared.Row.{Row}
-use Rattle.rule.specs.Causes.{by-side, by-rim, Below, _≼_}
+use Rattle.rule.specs.Causes.{by-side, Below, _≼_}
 use Rattle.rule.specs.Contact.{when}
-use Rattle.rule.specs.EdgeTime.{rim}
 use Rattle.rule.specs.WallTime.{wallTime}
-use Rattle.rule.proofs.Existence.{cand-trans}
 use Rattle.rule.proofs.Running.{Fresh}
 use Rattle.rule.proofs.Turn.{beats-better}
 use Rattle.causes.specs.declared.Cause.{Cause}
@@ -31,7 +29,7 @@ use Rattle.pair_marks.specs.Marks.{Marked}
 use Rattle.grid_steps.specs.Steps.{regionOf, Here}
 use Rattle.grid_state.specs.State.{cellsAt, Runs, Tried, Walls, Best, Base, Looked}
 use Rattle.grid_state.proofs.OneMore.{own-cells, other-cells}
-use Rattle.grid_state.proofs.Stores.{at-put}
+use Rattle.grid_state.proofs.Stores.{at-put, walls-better}
 
 -- ---- one store in place of two
 
@@ -42,16 +40,6 @@ pub both-put : (ts : List Tip) (i : ℕ) (base best : Cause) → i < length ts �
 both-put ts i base best h =
     let t : Tip = record { best = tipIn ts i .best; base = base; ended = tipIn ts i .ended; cell = tipIn ts i .cell } in
     set-set ts i t _ ∙ ap (λ (z : Tip). set ts i (record { best = best; base = z .base; ended = z .ended; cell = z .cell })) (getD-set-same ts i t noTip h)
-
--- ---- a better cause
-
-walls-better : {S : Listing} {side : ℕ} {l : List Cell} {a : Track} {c d : Cause} → Stands S a d → candOf S d ≼ candOf S c → Walls S side l a c → Walls S side l a d
-walls-better {S} {side} {l} {a} {c} {d} t h w =
-    record {
-      stands = t;
-      at-rim = cand-trans (candOf S d) (candOf S c) (record { u = rim a; why = by-rim }) h (w .at-rim);
-      at-walls = λ j i x u e. cand-trans (candOf S d) (candOf S c) (record { u = u; why = by-side (wallAt S j) }) h (w .at-walls j i x u e);
-    }
 
 -- ---- a cell more
 
