@@ -1,0 +1,116 @@
+-- When a cell entry leaves the queue. Main theorems: `before-end`, a tip that came to a cell before anything could end it came to it before its end, as the rule has it; `cell-time`, the time of the entry's key is the time at which the trace enters the cell.
+use mathlib.Core.List.{List, Memᴰ·append-left}
+use mathlib.Core.Logic.{_⊎_, inl, inr, _≢_}
+use mathlib.Core.Path.{_≡_, refl, sym, ap, _∙_, subst}
+use Prim.Native.Nat.{ℕ}
+use native.Mathlib.Omega.{arith}
+use lib.ListN.{drop, take-append-drop}
+use Rattle.exact.specs.Time.{Time, _≤ᵗ_}
+use Rattle.exact.proofs.TimeOrder.{≤ᵗ-trans, ≤ᵗ-<ᵗ-trans, <ᵗ-irrefl, at-most}
+use Rattle.sheet.specs.declared.Track.{Track}
+use Rattle.sheet.specs.declared.Wall.{Wall}
+use Rattle.sheet.specs.Accepted.{Accepted}
+use Rattle.sheet.specs.HandedIn.{noTrack, noWall}
+use Rattle.sheet.specs.Listing.{Listing, _∈_}
+use Rattle.sheet.proofs.Lists.{at-mem}
+use Rattle.rule.specs.declared.Row.{Row}
+use Rattle.rule.specs.Rule.{Blocks, Stops, by-track, by-wall, by-edge}
+use Rattle.rule.specs.Rows.{time, timeOf}
+use Rattle.rule.specs.Causes.{upTo}
+use Rattle.rule.specs.Contact.{Quot, when, Contact, hit, contact}
+use Rattle.rule.specs.EdgeTime.{rim}
+use Rattle.rule.specs.WallTime.{wallTime}
+use Rattle.rule.specs.Selection.{rollOf}
+use Rattle.rule.proofs.Consequences.{start-ends, ends-in-time}
+use Rattle.rule.proofs.Contacts.{Passed, ContactMeans, no-contact, contact-at}
+use Rattle.rule.proofs.Existence.{roll-of}
+use Rattle.rule.proofs.OneRoll.{meets, timeOf-row}
+use Rattle.rule.proofs.OnSheet.{contact-of, wall-of, rim-last}
+use Rattle.rule.proofs.Running.{Ended, Fresh, ended?}
+use Rattle.rule.proofs.Selection.{up-all, up-fresh}
+use Rattle.rule.proofs.Walls.{WallMeans, clear, touches}
+use Rattle.causes.specs.declared.Cause.{Cause}
+use Rattle.causes.specs.Cause.{Fine}
+use Rattle.cells.specs.declared.Cell.{Cell}
+use Rattle.cells.specs.EnteredAt.{EnteredAt}
+use Rattle.cells.specs.Cut.{past}
+use Rattle.cells.specs.OneCell.{entry, exit}
+use Rattle.cells.proofs.Cut.{_<ᶜ_, after-den, after-mono}
+use Rattle.cells.proofs.Entry.{past-before, before-past, point-by, entered-at}
+use Rattle.cells.proofs.Walk.{next, Stepped}
+use Rattle.event_queue.specs.Key as key
+use Rattle.pending_entries.specs.Pending.{pendingKey}
+use Rattle.pending_entries.proofs.Order.{pending-by, own-entry}
+use Rattle.grid_state.specs.State.{Ahead}
+use Rattle.grid_state.specs.Run.{Rows}
+
+-- the rows so far are rows of the roll
+pub known-roll : {S : Listing} {done : List Row} {k : ℕ} → Rows S done k → (d : Row) → d ∈ done → d ∈ rollOf S
+known-roll {S} {k = k} h d m = subst (λ (l : List Row). d ∈ l) (take-append-drop k (rollOf S)) (Memᴰ·append-left (drop k (rollOf S)) (h .known d m))
+
+module _ {S : Listing} (acc : Accepted S) {done : List Row} (known : (d : Row) → d ∈ done → d ∈ rollOf S) where
+  abbrev ends : ℕ → Time
+  ends = timeOf (rollOf S)
+
+  -- a time that is in b's trace is in what is known of it
+  in-known : (b : Track) (u v : Time) → v ≤ᵗ u → v ≤ᵗ ends (b .id) → v ≤ᵗ upTo done u (b .id)
+  in-known b u v h k = go (ended? b done)
+    where
+      row : (r : Row) → r ∈ done → r .id ≡ b .id → v ≤ᵗ time r
+      row r m e = subst (λ (z : Time). v ≤ᵗ z) (ap ends (sym e) ∙ timeOf-row (rollOf S) r (roll-of S acc .meets .is-set .distinct) (known r m)) k
+
+      go : Ended done b ⊎ Fresh done b → v ≤ᵗ upTo done u (b .id)
+      go (inl (d, m, e)) = up-all (λ (z : Time). v ≤ᵗ z) u done (b .id) row d m e
+      go (inr f) = subst (λ (z : Time). v ≤ᵗ z) (sym (up-fresh u done b f)) h
+
+  module _ {s : ℕ} {a : Track} (m : a ∈ S .tracks) {k : Cell} (ahead : Ahead S done s a k) (on-sheet : entry a s k <ᶜ past (rim a)) where
+    later : {u v : Time} → u ≤ᵗ v → entry a s k <ᶜ past u → entry a s k <ᶜ past v
+    later h i = past-before (after-mono h (before-past i))
+
+    -- no tip comes by the start of another and goes on
+    never-passed : (b : Track) (t r : Time) → Blocks S ends a t b r → Passed a b r → ⊥
+    never-passed b t r k p =
+        <ᵗ-irrefl (≤ᵗ-<ᵗ-trans (≤ᵗ-trans (k .running) (start-ends (meets (roll-of S acc .meets)) (k .on-sheet) m (λ e. k .other (sym e)) (p .by))) (p .before))
+
+    by-tip : (b : Track) (t r : Time) → Blocks S ends a t b r → entry a s k <ᶜ past t
+    by-tip b t r j = go (contact a b) refl (contact-of acc m b (j .on-sheet) (j .other))
+      where
+        met : (u v : Time) → contact a b ≡ hit u v → v ≤ᵗ u → u ≤ᵗ t → v ≤ᵗ r → entry a s k <ᶜ past t
+        met u v e o h i =
+            let (n, l, f) = at-mem noTrack (S .tracks) b (j .on-sheet) in
+            later h (ahead .of-tips n l (subst (λ (z : Track). z .id ≢ a .id) (sym f) (j .other)) u v (subst (λ (z : Track). contact a z ≡ hit u v) (sym f) e)
+            (subst (λ (z : Track). v ≤ᵗ upTo done u (z .id)) (sym f) (in-known b u v o (≤ᵗ-trans i (j .running)))))
+
+        go : (q : Contact) → contact a b ≡ q → ContactMeans a b q → entry a s k <ᶜ past t
+        go q e (no-contact g) = absurd (never-passed b t r j (g t r (j .there) (j .not-later)))
+        go q e (contact-at u v x o g) = on (g t r (j .there) (j .not-later))
+          where
+            on : ((u ≤ᵗ t) × (v ≤ᵗ r)) ⊎ Passed a b r → entry a s k <ᶜ past t
+            on (inl (h, i)) = met u v e o h i
+            on (inr p) = absurd (never-passed b t r j p)
+
+    by-stop : (t : Time) → Stops S ends a t → entry a s k <ᶜ past t
+    by-stop t (by-track b r j) = by-tip b t r j
+    by-stop t (by-wall w i o) = go (wallTime a w) refl (wall-of acc m w i)
+      where
+        go : (q : Quot) → wallTime a w ≡ q → WallMeans a w q → entry a s k <ᶜ past t
+        go q e (clear f) = absurd (f t o)
+        go q e (touches u x f) =
+            let (n, l, y) = at-mem noWall (S .walls) w i in
+            later (f t o) (ahead .of-walls n l u (subst (λ (z : Wall). wallTime a z ≡ when u) (sym y) e))
+    by-stop t (by-edge o) = later (at-most (λ x. o .later (rim a) x (rim-last acc m .now))) on-sheet
+
+    pub before-end : entry a s k <ᶜ past (ends (a .id))
+    before-end = by-stop (ends (a .id)) (ends-in-time acc m .0 .stops)
+
+  -- the key of the entry of the next cell has its time
+  pub cell-time : {s g : ℕ} {a : Track} → a ∈ S .tracks → (c : Cause) → Fine c → {k : Cell} → Stepped a (rim a) s g k (next a s k) → Ahead S done s a (next a s k) → (pendingKey a s k c .late ≡ 1 → ⊥) →
+      EnteredAt a (ends (a .id)) s (next a s k) (key.time (pendingKey a s k c))
+  cell-time {s} {g} {a} m c f {k} st ahead l =
+      let p = own-entry a s k c f l in
+      let d = after-den (exit a s k) (p .at) (p .above) in
+      let (n, e) = numbers in
+      entered-at (point-by (st .good .fresh) (before-past (before-end m ahead (st .good .soon)))) (exit a s k) (st .just) (st .since) (key.time (pendingKey a s k c)) n (omega (arith, e))
+    where
+      numbers : (pendingKey a s k c .num ≡ exit a s k .num) × (pendingKey a s k c .den ≡ exit a s k .den)
+      numbers = pending-by a s k c (λ x. (x .late ≡ 1 → ⊥) → (x .num ≡ exit a s k .num) × (x .den ≡ exit a s k .den)) (λ e h. (refl, refl)) (λ e h. absurd (h refl)) l
