@@ -15,7 +15,7 @@ use Rattle.event_queue.proofs.Callers.{held-long, nothing}
 use Rattle.tips.specs.Tips.{Tip, tipIn, tipsIn}
 use Rattle.tips.proofs.Stored.{tips-long, tip-blank}
 use Rattle.pair_marks.specs.Marks.{marksIn}
-use Rattle.pair_marks.proofs.Stored.{square-in, no-mark}
+use Rattle.pair_marks.proofs.Stored.{marks-square, no-mark}
 use Rattle.cell_members.proofs.Chains.{members-long, count-blank, members-blank, linked-blank}
 use Rattle.grid_state.specs.State.{cellsAt, total}
 use Rattle.grid_state.specs.Sweep.{Sweep, sweepIn, Swept}
@@ -61,7 +61,7 @@ module _ {S : Listing} (acc : Accepted S) {g : ℕ} (fig : Figure g) (t q k m : 
           gone = λ j l. absurd (omega arith);
         };
         marked = record {
-          square = square-in k;
+          square = marks-square k;
           both = λ i j a b x. absurd (no-mark k bk i j x);
           begun = λ i j a b x. absurd (no-mark k bk i j x);
           share = λ i j c l. absurd (omega arith);
