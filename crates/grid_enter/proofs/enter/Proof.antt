@@ -1,0 +1,92 @@
+-- `enter`: the tip looks at the walls of the cell, meets its tips, joins them, and has its next event.
+use mathlib.Core.Path.{refl}
+use Rattle.grid_state.proofs.Ways.{way-place, way-looks, way-code, way-count, way-meet, way-back, way-free}
+use borrow.Author.Needs.{needs}
+use Rattle.grid_enter.proofs.enter.Statement.{statement}
+use Rattle.grid_enter.proofs.enter.Tie as tie
+
+mul-cell : tie.Need-mul-cell
+mul-cell c = search needs
+
+add-cell : tie.Need-add-cell
+add-cell c = search needs
+
+look-here-requires : tie.Need-look-here-requires
+look-here-requires c κs =
+    let p = c .before .before .before .before .before .before .before .before .pre in
+    (p .0, p .1 .tips-room, p .1 .holds .way .in-grid, way-looks (p .1 .holds .way))
+
+meet-requires : tie.Need-meet-requires
+meet-requires c κs =
+    let p = c .before .before .before .before .before .before .before .before .before .before .before .before .before .before .before .pre in
+    let w = p .1 .holds .way in
+    (p .0, p .1 .linked, way-code w, record { tips-room = search needs; queue = p .1 .queue; marks-room = p .1 .marks-room; holds = way-meet w (c .before .before .before .before .before .before .look-here .ensures) })
+
+join-requires : tie.Need-join-requires
+join-requires c κs =
+    let p = c .before .before .before .before .before .before .before .before .before .before .before .before .before .before .before .before .before .before .before .before .before .before .before .pre in
+    let w = p .1 .holds .way in
+    (p .1 .linked, way-count w, way-code w, way-place w .1)
+
+put-cell-requires : tie.Need-put-cell-requires
+put-cell-requires c κs = (c .before .before .before .before .before .before .before .before .before .before .before .meet .ensures .tips-room, way-place (c .before .before .before .before .before .before .before .before .before .before .before .before .before .before .before .before .before .before .before .before .before .before .before .before .before .before .before .pre .1 .holds .way) .1)
+
+put-back-requires : tie.Need-put-back-requires
+put-back-requires c κs =
+    let p = c .before .before .before .before .before .before .before .before .before .before .before .before .before .before .before .before .before .before .before .before .before .before .before .before .before .before .before .before .before .before .before .before .pre in
+    let w = p .1 .holds .way in
+    let here = c .before .before .before .before .before .before .before .before .before .before .before .before .before .before .before .before .before .before .before .before .before .before .before .look-here .ensures in
+    let met = c .before .before .before .before .before .before .before .before .before .before .before .before .before .before .before .before .meet .ensures in
+    (p .0, search needs, way-back w here (met .holds) (c .before .before .before .before .put-cell .ensures), met .queue, way-free w here (met .holds))
+
+same-length : tie.Need-same-length
+same-length c = search needs
+
+same-length-2 : tie.Need-same-length-2
+same-length-2 c = search needs
+
+same-length-3 : tie.Need-same-length-3
+same-length-3 c = search needs
+
+same-length-4 : tie.Need-same-length-4
+same-length-4 c = search needs
+
+returns : tie.Need-returns
+returns c =
+    let back = c .before .before .put-back .ensures in
+    let joined = c .before .before .before .before .before .before .before .before .before .before .before .join .ensures in
+    let met = c .before .before .before .before .before .before .before .before .before .before .before .before .before .before .before .before .before .before .before .meet .ensures in
+    record {
+      tips-room = search needs;
+      queue = back .queue;
+      marks-room = met .marks-room;
+      linked = joined .linked;
+      holds = record {
+        seen = _;
+        met = _;
+        walls = c .before .before .before .before .before .before .before .before .before .before .before .before .before .before .before .before .before .before .before .before .before .before .before .before .before .before .look-here .ensures;
+        meets = met .holds;
+        tips = c .before .before .before .before .before .before .before .put-cell .ensures;
+        pending = back .holds;
+        marks = refl;
+        members = joined .members;
+        entered = joined .counted;
+      };
+    }
+
+pub enter-spec : {M : Type 1} → statement M
+enter-spec =
+    tie.close
+    (tie.spec
+    mul-cell
+    add-cell
+    look-here-requires
+    meet-requires
+    join-requires
+    put-cell-requires
+    put-back-requires
+    same-length
+    same-length-2
+    same-length-3
+    same-length-4
+    returns)
