@@ -1,4 +1,4 @@
--- The pending event of a running tip (document 01, "Grid, events, cells"): the sooner of its next cell entry and its best known cause.
+-- The pending event of a running tip (SHEETS 6.8): the sooner of its next cell entry and its best known cause.
 use mathlib.Core.Bool.{Bool, cond}
 use Prim.Native.Nat.{ℕ, zero, suc}
 use lib.Dec.{eqb}
@@ -16,7 +16,7 @@ use Rattle.event_queue.specs.declared.Event.{Event}
 use Rattle.event_queue.specs.declared.Event.the-variants as event
 use Rattle.event_queue.specs.Late.{entryLate}
 
--- ---- when it leaves: "Events leave the heap by exact time."
+-- ---- when it leaves: by exact time
 
 -- the entry of a cell at o by the tip of this id
 abbrev pub entryKey : Onset → ℕ → Key
@@ -36,7 +36,7 @@ entersFirst a s k c = priorOf (onsetOf (exit a s k)) (onset (c .u) (c .ud) 1)
 unfoldable pub pendingKey : Track → ℕ → Cell → Cause → Key
 pendingKey a s k c = cond (entersFirst a s k c) (entryKey (onsetOf (exit a s k)) (a .id)) (causeKey c (a .id))
 
--- ---- what it is: "an event is a cell entered, a track reached, a wall reached or the edge reached"
+-- ---- what it is: a cell entered, or what ends the tip
 
 -- by the cause's class
 unfoldable pub reachedOf : ℕ → ℕ → Event
