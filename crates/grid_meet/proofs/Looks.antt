@@ -2,9 +2,8 @@
 use mathlib.Core.Logic.{_≢_, inl, inr}
 use mathlib.Core.List.{List, [], _∷_, List·Memᴰ·head}
 use mathlib.Core.Option.{some}
-use mathlib.Core.Path.{_≡_, refl, sym, _∙_}
+use mathlib.Core.Path.{_≡_, refl, _∙_}
 use Prim.Native.Nat.{ℕ, _<_}
-use native.Mathlib.Omega.{arith}
 use lib.ListN.{set}
 use Rattle.sheet.specs.Listing.{Listing}
 use Rattle.event_queue.specs.Queue.{Slots, Queue, slots, Held, Holds}
@@ -15,7 +14,7 @@ use Rattle.pair_marks.specs.Marks.{Marked, marksIn, marking}
 use Rattle.grid_steps.specs.Steps.{MayLook, MayEnter, Offered, entryIn}
 use Rattle.grid_state.specs.Sweep.{Crowd, crowdIn, Crowded}
 use Rattle.grid_state.specs.State.{Runs}
-use Rattle.grid_state.specs.Meeting.{Noticed, looks, has-ended, Both, Paired, known, looked, Frame, Busy, MayMeet}
+use Rattle.grid_state.specs.Meeting.{Noticed, looks, Paired, known, looked, Frame, Busy, MayMeet}
 use Rattle.grid_state.proofs.Meeting.{begun-place, look-own, look-other}
 use Rattle.grid_meet.specs.Meeting.{MayNotice}
 

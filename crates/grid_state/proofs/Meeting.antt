@@ -1,5 +1,5 @@
 -- The tip on its way and another look at each other; so with each of a list. Main theorems: `busy-paired`, `busy-meets`.
-use mathlib.Core.List.{List, [], _∷_, List·Memᴰ·head, List·Memᴰ·tail, List·Memᴰ·not-nil, List·Memᴰ·cases-cons}
+use mathlib.Core.List.{List, [], List·Memᴰ·head, List·Memᴰ·tail, List·Memᴰ·not-nil, List·Memᴰ·cases-cons}
 use mathlib.Core.Logic.{_⊎_, inl, inr, _≢_}
 use mathlib.Core.Path.{_≡_, refl, sym, ap, subst, _∙_}
 use mathlib.Core.Option.{some}
@@ -183,10 +183,8 @@ module _ {S : Listing} {F : Frame} {side i : ℕ} where
       let one = look z i j (z .runs) h (o .own) in
       let own = look-own z j h (o .own) in
       let two = look-other own j h n (o .other) in
-      let m =
-          mark-both (two .busy) j h
-          (λ x. subst (λ (c : Cause). Beats (F .done) (candOf S c) (tipAt S i) (tipAt S j)) (sym (two .own-same)) (one .beats x))
-          (two .beats) (w′ .marks) (o .marks) in
+      let f = subst (λ (c : Cause). tipAt S j .id ≢ tipAt S i .id → Beats (F .done) (candOf S c) (tipAt S i) (tipAt S j)) (sym (two .own-same)) (one .beats) in
+      let m = mark-both (two .busy) j h f (two .beats) (w′ .marks) (o .marks) in
       record {
         busy = m .busy;
         later = later-trans (later-on z one (w .pending)) (later-trans (two .later) (m .later));

@@ -23,21 +23,27 @@ tip-of-requires : tie.Need-tip-of-requires Inv-loop μ-loop
 tip-of-requires c κs = let k = c .before .before .before .before .before .before .before .before .pre .1 in (k .long, c .loop-test .taken, walk-in k (c .before .loop .inv) (c .loop-test .taken))
 
 pair-requires : tie.Need-pair-requires Inv-loop μ-loop
-pair-requires c κs = let p = c .before .before .before .before .before .before .before .before .before .before .before .before .pre in (p .0, walk-may (p .1) (c .before .before .before .before .before .loop .inv) (c .before .before .before .before .loop-test .taken) (c .before .before .before .tip-of .ensures))
+pair-requires c κs =
+    let p = c .before .before .before .before .before .before .before .before .before .before .before .before .pre in
+    (p .0, walk-may (p .1) (c .before .before .before .before .before .loop .inv) (c .before .before .before .before .loop-test .taken) (c .before .before .before .tip-of .ensures))
 
 older-requires : tie.Need-older-requires Inv-loop μ-loop
-older-requires c κs = 
+older-requires c κs =
     let k = c .before .before .before .before .before .before .before .before .before .before .before .before .before .before .before .before .before .before .before .pre .1 in
     let h = c .before .before .before .before .before .before .before .before .before .before .before .loop-test .taken in
     (k .long, h, walk-in k (c .before .before .before .before .before .before .before .before .before .before .before .before .loop .inv) h)
 
 loop-less : tie.Need-loop-less Inv-loop μ-loop
-loop-less c = rw (c .older .ensures) (walk-less (c .before .before .before .before .before .before .before .before .before .before .before .before .before .before .before .before .before .before .before .before .pre .1) (c .before .before .before .before .before .before .before .before .before .before .before .before .before .loop .inv) (c .before .before .before .before .before .before .before .before .before .before .before .before .loop-test .taken))
+loop-less c =
+    let k = c .before .before .before .before .before .before .before .before .before .before .before .before .before .before .before .before .before .before .before .before .pre .1 in
+    rw (c .older .ensures) (walk-less k (c .before .before .before .before .before .before .before .before .before .before .before .before .before .loop .inv) (c .before .before .before .before .before .before .before .before .before .before .before .before .loop-test .taken))
 
 loop-again : tie.Need-loop-again Inv-loop μ-loop
-loop-again c = 
-    rw (c .older .ensures)
-    (walk-step (c .before .before .before .before .before .before .before .before .before .before .before .before .before .before .before .before .before .before .before .before .pre .1) (c .before .before .before .before .before .before .before .before .before .before .before .before .before .loop .inv) (c .before .before .before .before .before .before .before .before .before .before .before .before .loop-test .taken) (c .before .before .before .before .before .before .before .before .before .before .before .tip-of .ensures) (c .before .before .before .before .before .before .before .pair .ensures))
+loop-again c =
+    let k = c .before .before .before .before .before .before .before .before .before .before .before .before .before .before .before .before .before .before .before .before .pre .1 in
+    let i = c .before .before .before .before .before .before .before .before .before .before .before .before .before .loop .inv in
+    let h = c .before .before .before .before .before .before .before .before .before .before .before .before .loop-test .taken in
+    rw (c .older .ensures) (walk-step k i h (c .before .before .before .before .before .before .before .before .before .before .before .tip-of .ensures) (c .before .before .before .before .before .before .before .pair .ensures))
 
 same-length : tie.Need-same-length Inv-loop μ-loop
 same-length c = c .before .loop .inv .tips-room ∙ sym (c .before .before .before .before .before .before .before .before .pre .3 .tips-room)

@@ -13,7 +13,7 @@ offer-requires : tie.Need-offer-requires
 offer-requires c κs = let p = c .before .before .before .before .before .before .before .pre in (p .0, p .1, notice-look (p .3))
 
 retime-requires : tie.Need-retime-requires
-retime-requires c κs = 
+retime-requires c κs =
     let p = c .before .before .before .before .before .before .before .before .before .before .before .before .pre in
     let r = sym (c .before .before .before .before .before .before .before .ended .ensures) ∙ c .before .before .before .before .before .before .if1 .taken in
     (p .0, search needs, notice-enter (p .3) r (c .before .before .before .before .offer .ensures), p .2, notice-held (p .3) r)
@@ -25,7 +25,7 @@ same-length-2 : tie.Need-same-length-2
 same-length-2 c = search needs
 
 returns : tie.Need-returns
-returns c = 
+returns c =
     let r = sym (c .before .before .before .before .before .before .before .before .before .before .ended .ensures) ∙ c .before .before .before .before .before .before .before .before .before .if1 .taken in
     is-noticed r (c .before .before .before .before .before .before .before .offer .ensures) (c .before .before .retime .ensures)
 

@@ -20,7 +20,9 @@ offer-requires : tie.Need-offer-requires
 offer-requires c κs = let p = c .before .before .before .before .before .before .before .before .before .pre in (p .0, p .1 .tips-room, pair-look (p .1))
 
 notice-requires : tie.Need-notice-requires
-notice-requires c κs = let p = c .before .before .before .before .before .before .before .before .before .before .before .before .before .before .pre in (p .0, search needs, p .1 .queue, pair-notice (p .1) (c .before .before .before .before .before .before .before .before .before .if1 .left) (c .before .before .before .before .offer .ensures))
+notice-requires c κs =
+    let p = c .before .before .before .before .before .before .before .before .before .before .before .before .before .before .pre in
+    (p .0, search needs, p .1 .queue, pair-notice (p .1) (c .before .before .before .before .before .before .before .before .before .if1 .left) (c .before .before .before .before .offer .ensures))
 
 mark-pair-requires : tie.Need-mark-pair-requires
 mark-pair-requires c κs = let p = c .before .before .before .before .before .before .before .before .before .before .before .before .before .before .before .before .before .before .before .before .pre .1 in (p .marks-room, pair-in p .0, pair-in p .1)
@@ -35,7 +37,10 @@ same-length-4 : tie.Need-same-length-4
 same-length-4 c = search needs
 
 returns-3 : tie.Need-returns-3
-returns-3 c = is-paired (c .before .before .before .before .before .before .before .before .before .before .before .before .before .before .before .before .before .before .before .before .before .before .before .pre .1) (c .before .before .before .before .before .before .before .before .before .before .before .before .before .before .before .before .before .before .if1 .left) (c .before .before .before .before .before .before .before .before .before .before .before .before .before .offer .ensures) (c .before .before .before .before .before .before .before .before .notice .ensures) (c .before .before .mark-pair .ensures) (search needs) (search needs)
+returns-3 c =
+    let p = c .before .before .before .before .before .before .before .before .before .before .before .before .before .before .before .before .before .before .before .before .before .before .before .pre .1 in
+    let o = c .before .before .before .before .before .before .before .before .before .before .before .before .before .offer .ensures in
+    is-paired p (c .before .before .before .before .before .before .before .before .before .before .before .before .before .before .before .before .before .before .if1 .left) o (c .before .before .before .before .before .before .before .before .notice .ensures) (c .before .before .mark-pair .ensures) (search needs) (search needs)
 
 pub pair-spec : {M : Type 1} → statement M
 pair-spec =
