@@ -23,11 +23,11 @@ use Rattle.event_queue.specs.Queue.{slot, First}
 use Rattle.grid_state.specs.Sweep.{Sweep}
 use Rattle.grid_state.specs.Run.{Going}
 use Rattle.grid_state.specs.ToDo.{toDo}
-use Rattle.grid_turn.specs.declared.Turn.{Turn}
-use Rattle.grid_turn.specs.declared.Turn.the-variants.{Rows, Over}
+use Rattle.grid_turn.specs.declared.Outcome.{Outcome}
+use Rattle.grid_turn.specs.declared.Outcome.the-variants.{Rows, Over}
 
 -- the row after the first k is written, or none
-pub data Wrote (S : Listing) (k : ℕ) (out : List ℕ) (r : Turn) (out′ : List ℕ) : Type 0 where
+pub data Wrote (S : Listing) (k : ℕ) (out : List ℕ) (r : Outcome) (out′ : List ℕ) : Type 0 where
   no-row : (r ≡ Over) ⊎ (r ≡ Rows k) → out′ ≡ out → Wrote S k out r out′
   one-row : r ≡ Rows (k + 1) → out′ ≡ sets out (29 * k) (rowBytes (nextRow S k)) → Wrote S k out r out′
 
@@ -48,9 +48,9 @@ pub record Happened (S : Listing) (g k : ℕ) (w : Sweep) (k′ : ℕ) (w′ : S
   pub less : toDo (length (S .tracks)) w′ k′ < toDo (length (S .tracks)) w k
 
 -- by the answer; there is none where no tip has a pending event
-abbrev pub Turns : Listing → ℕ → ℕ → Sweep → Turn → Sweep → Type 0
+abbrev pub Turns : Listing → ℕ → ℕ → Sweep → Outcome → Sweep → Type 0
 Turns S g k w (Rows k′) w′ = Happened S g k w k′ w′
 Turns S g k w Over w′ = ((j : ℕ) → slot (w .crowd .pending) j ≡ none) × (w′ ≡ w)
 
-pub record Turned (S : Listing) (g k : ℕ) (w : Sweep) (r : Turn) (w′ : Sweep) : Type 0 where
+pub record Turned (S : Listing) (g k : ℕ) (w : Sweep) (r : Outcome) (w′ : Sweep) : Type 0 where
   pub turns : Turns S g k w r w′

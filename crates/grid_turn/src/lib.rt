@@ -15,7 +15,7 @@ use event_queue::Next;
 use rule::Ending;
 
 // How many rows are out after an event, or that there was none.
-pub enum Turn {
+pub enum Outcome {
     Rows(usize),
     Over,
 }
@@ -68,4 +68,39 @@ fn reach(
     }
     let ending = by_track(tips, i, id);
     end_tip(records, i, ending, rows, tips, out)
+}
+
+// The next event.
+pub fn turn(
+    records: &[u16],
+    g: u64,
+    rows: usize,
+    tips: &mut [u64],
+    queue: &mut [u64],
+    marks: &mut [u8],
+    members: &mut [u16],
+    out: &mut [u8],
+) -> Outcome
+    requires { ⌜ Recorded (now records) × Swept (Going (sheetIn (now records)) g rows) (now tips) (now queue) (now marks) (now members) × (29 * length (sheetIn (now records) .tracks) ≤ length (now out)) ⌝ }
+    ensures { λ r. ⌜ Swept (Turned (sheetIn (now (records .entry))) g rows (sweepIn (now (tips .entry)) (now (queue .entry)) (now (marks .entry)) (now (members .entry))) r)
+        (now (tips .exit)) (now (queue .exit)) (now (marks .exit)) (now (members .exit)) ⌝ }
+    ensures { λ r. ⌜ Wrote (sheetIn (now (records .entry))) rows (now (out .entry)) r (now (out .exit)) ⌝ }
+{
+    let side = 4096 / g;
+    match event_queue::pop(queue) {
+        Next::Tip(i, event) => match event {
+            Event::Cell(column, row) => {
+                let k = Cell {
+                    column: column as u64,
+                    row: row as u64,
+                };
+                grid_enter::enter(records, side, i, k, tips, queue, marks, members);
+                Outcome::Rows(rows)
+            }
+            Event::Track(id) => Outcome::Rows(reach(records, side, i, id, rows, tips, queue, marks, out)),
+            Event::Wall(id) => Outcome::Rows(end_tip(records, i, Ending::ByWall(id), rows, tips, out)),
+            Event::Edge => Outcome::Rows(end_tip(records, i, Ending::Edge, rows, tips, out)),
+        },
+        Next::Nothing => Outcome::Over,
+    }
 }
