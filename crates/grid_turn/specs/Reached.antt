@@ -53,8 +53,8 @@ pub record MayReach (S : Listing) (side i id k : ℕ) (w : Crowd) : Type 0 where
 -- it has looked again, and has a pending event again; or it has ended
 pub data Reached (S : Listing) (side i k : ℕ) (w : Crowd) (out : List ℕ) (k′ : ℕ) (out′ : List ℕ) (w′ : Crowd) : Type 0 where
   again :
-    stale (w .tips) i ≡ true → LookedAgain S i (getD (w .marks) i []) (w .tips) (w′ .tips) → w′ .pending ≡ set (w .pending) i (some (entryIn S side (w′ .tips) i)) →
-    out′ ≡ out → k′ ≡ k → Reached S side i k w out k′ out′ w′
+      stale (w .tips) i ≡ true → LookedAgain S i (getD (w .marks) i []) (w .tips) (w′ .tips) → w′ .pending ≡ set (w .pending) i (some (entryIn S side (w′ .tips) i)) →
+      out′ ≡ out → k′ ≡ k → Reached S side i k w out k′ out′ w′
   ended :
-    stale (w .tips) i ≡ false → (e : Ending) → EndingOf (tipIn (w .tips) i .best) e → Finished S i k e (w .tips) out (w′ .tips) out′ → w′ .pending ≡ w .pending →
-    k′ ≡ k + 1 → Reached S side i k w out k′ out′ w′
+      stale (w .tips) i ≡ false → (e : Ending) → EndingOf (tipIn (w .tips) i .best) e → Finished S i k e (w .tips) out (w′ .tips) out′ → w′ .pending ≡ w .pending →
+      k′ ≡ k + 1 → Reached S side i k w out k′ out′ w′

@@ -21,13 +21,20 @@ pub enum Outcome {
 }
 
 // The tip at i ends by its cause; its row comes after the `rows` that are out.
-fn end_tip(records: &[u16], i: usize, ending: Ending, rows: usize, tips: &mut [u64], out: &mut [u8]) -> usize
+fn end_tip(
+    records: &[u16],
+    i: usize,
+    ending: Ending,
+    rows: usize,
+    tips: &mut [u64],
+    out: &mut [u8],
+) -> usize
     requires { ⌜ Recorded (now records) × Room (now tips) × MayEnd (sheetIn (now records)) i rows (tipsIn (now tips)) × (29 * length (sheetIn (now records) .tracks) ≤ length (now out)) ⌝ }
     ensures { λ r. ⌜ (r ≡ rows + 1) × Finished (sheetIn (now (records .entry))) i rows ending (tipsIn (now (tips .entry))) (now (out .entry)) (tipsIn (now (tips .exit))) (now (out .exit)) ⌝ }
 {
     let a = records::track_at(records, i);
-    let c = tips::best_of(tips, i);
-    let row = row::row_of(a, c.u, c.ud, ending);
+    let cause = tips::best_of(tips, i);
+    let row = row::row_of(a, cause.u, cause.ud, ending);
     row::put_row(out, 29 * rows, row);
     tips::put_end(tips, i);
     rows + 1
@@ -58,7 +65,8 @@ fn reach(
     out: &mut [u8],
 ) -> usize
     requires { ⌜ Recorded (now records) × Crowded (MayReach (sheetIn (now records)) side i id rows) (now tips) (now queue) (now marks) × (29 * length (sheetIn (now records) .tracks) ≤ length (now out)) ⌝ }
-    ensures { λ r. ⌜ Crowded (Reached (sheetIn (now (records .entry))) side i rows (crowdIn (now (tips .entry)) (now (queue .entry)) (now (marks .entry))) (now (out .entry)) r (now (out .exit))) (now (tips .exit)) (now (queue .exit)) (now (marks .entry)) ⌝ }
+    ensures { λ r. ⌜ Crowded (Reached (sheetIn (now (records .entry))) side i rows (crowdIn (now (tips .entry)) (now (queue .entry)) (now (marks .entry))) (now (out .entry)) r (now (out .exit)))
+        (now (tips .exit)) (now (queue .exit)) (now (marks .entry)) ⌝ }
 {
     if look::stale(tips, i) {
         let known = pair_marks::row_of(marks, i);
@@ -90,15 +98,20 @@ pub fn turn(
     match event_queue::pop(queue) {
         Next::Tip(i, event) => match event {
             Event::Cell(column, row) => {
-                let k = Cell {
-                    column: column as u64,
-                    row: row as u64,
-                };
+                let column = column as u64;
+                let row = row as u64;
+                let k = Cell { column, row };
                 grid_enter::enter(records, side, i, k, tips, queue, marks, members);
                 Outcome::Rows(rows)
             }
-            Event::Track(id) => Outcome::Rows(reach(records, side, i, id, rows, tips, queue, marks, out)),
-            Event::Wall(id) => Outcome::Rows(end_tip(records, i, Ending::ByWall(id), rows, tips, out)),
+            Event::Track(id) => {
+                let k = reach(records, side, i, id, rows, tips, queue, marks, out);
+                Outcome::Rows(k)
+            }
+            Event::Wall(id) => {
+                let ending = Ending::ByWall(id);
+                Outcome::Rows(end_tip(records, i, ending, rows, tips, out))
+            }
             Event::Edge => Outcome::Rows(end_tip(records, i, Ending::Edge, rows, tips, out)),
         },
         Next::Nothing => Outcome::Over,

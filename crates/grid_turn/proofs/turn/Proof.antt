@@ -20,11 +20,11 @@ enum-known-i c = search needs
 enum-known-event : tie.Need-enum-known-event
 enum-known-event c = search needs
 
-cast-t22 : tie.Need-cast-t22
-cast-t22 c = search needs
+cast-column : tie.Need-cast-column
+cast-column c = search needs
 
-cast-t23 : tie.Need-cast-t23
-cast-t23 c = search needs
+cast-row : tie.Need-cast-row
+cast-row c = search needs
 
 enter-requires : tie.Need-enter-requires
 enter-requires c κs = let o = c .before .before .before .before .before .before .before .before .before .before .before .before .before .before .before .before .before .before .before .before in (o .pre .0, enter-asks (o .pre .1) (popped-is (c .before .before .before .before .before .before .before .before .i .given .1) (c .before .before .before .before .before .before .before .before .before .before .before .before .pop .ensures)) (c .before .before .before .before .before .event .given .1))
@@ -118,8 +118,8 @@ turn-spec =
     pop-requires
     enum-known-i
     enum-known-event
-    cast-t22
-    cast-t23
+    cast-column
+    cast-row
     enter-requires
     enum-known-event-2
     reach-requires
