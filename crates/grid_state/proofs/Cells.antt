@@ -29,7 +29,8 @@ use Rattle.pair_marks.specs.Marks.{Marked}
 use Rattle.grid_steps.specs.Steps.{regionOf, Here}
 use Rattle.grid_state.specs.State.{cellsAt, Runs, Tried, Walls, Best, Base, Looked}
 use Rattle.grid_state.proofs.OneMore.{own-cells, other-cells}
-use Rattle.grid_state.proofs.Stores.{at-put, walls-better}
+use Rattle.tips.proofs.Put.{at-put}
+use Rattle.grid_state.proofs.Stores.{walls-better}
 
 -- ---- one store in place of two
 

@@ -29,8 +29,8 @@ use Rattle.rule.proofs.Selection.{up-one, up-fresh}
 use Rattle.rule.specs.Meanwhile.{Formal, Live, Progress}
 use Rattle.rule.proofs.Turn.{beats-step}
 use Rattle.causes.specs.Cause.{tipAt, candOf, Fine}
-use Rattle.turn.specs.Ended.{nextRow}
-use Rattle.turn.proofs.Ended.{out-next, rows-next, progress-next, row-next}
+use Rattle.ending.specs.Ended.{nextRow}
+use Rattle.ending.proofs.Ended.{out-next, rows-next, progress-next, row-next}
 use Rattle.cells.specs.declared.Cell.{Cell}
 use Rattle.cells.specs.Grid.{InCell}
 use Rattle.cells.specs.Touched.{CellsOf}
@@ -48,10 +48,10 @@ use Rattle.grid_steps.specs.Steps.{InGrid, entryIn}
 use Rattle.grid_state.specs.State.{cellsAt, Runs, Tried, Best, Base, Looked, Marks, Ahead, Placed}
 use Rattle.grid_state.specs.Run.{Rows}
 use Rattle.grid_state.specs.Meeting.{LiveCause}
-use Rattle.grid_state.proofs.Stores.{at-put}
+use Rattle.tips.proofs.Put.{at-put}
 use Rattle.grid_state.proofs.Queue.{none-out}
 use Rattle.grid_state.proofs.Been.{cell-near, been-in}
-use Rattle.grid_state.proofs.Ends.{runs-on, over, ends-next}
+use Rattle.ending.proofs.Ends.{runs-on, over, ends-next}
 
 -- the event of the tip at r is the first of all, and it is its cause, which still counts
 module _ {S : Listing} (acc : Accepted S) {s : ℕ} (some-side : 0 < s) {done : List Row} {es : List (List Cell)} {k : ℕ} {ts : List Tip} {marks : List (List ℕ)}

@@ -43,7 +43,7 @@ use Rattle.grid_steps.specs.Steps.{InGrid, entryIn}
 use Rattle.grid_state.specs.State.{codeOf, cellsAt, total, Runs, Looked, Marks, Ahead, Placed, Listed}
 use Rattle.grid_state.proofs.OneMore.{other-cells, own-cells}
 use Rattle.grid_state.proofs.Been.{cell-near, been-in}
-use Rattle.grid_state.proofs.Stores.{at-put}
+use Rattle.tips.proofs.Put.{at-put}
 use Rattle.grid_state.proofs.Queue.{none-out}
 
 -- ---- the first cell

@@ -21,7 +21,7 @@ use Rattle.causes.specs.declared.Cause.{Cause}
 use Rattle.causes.specs.Cause.{tipAt, candOf, Stands}
 use Rattle.causes.specs.Looked.{FirstOfTracks}
 use Rattle.causes.proofs.Looking.{walls-live}
-use Rattle.turn.specs.Ended.{Endable, nextRow}
+use Rattle.ending.specs.Ended.{Endable, nextRow}
 use Rattle.cells.specs.declared.Cell.{Cell}
 use Rattle.cells.specs.EnteredAt.{EnteredAt}
 use Rattle.cells.specs.Grid.{side}
@@ -46,7 +46,8 @@ use Rattle.grid_state.specs.State.{cellsAt, Runs, Best, Base, Looked, Ah
 use Rattle.grid_state.specs.Run.{StateOf, WayOf, Way, Rows, Going}
 use Rattle.grid_state.specs.Meeting.{LiveCause, Enters}
 use Rattle.grid_state.specs.ToDo.{toDo}
-use Rattle.grid_state.proofs.Stores.{at-put, walls-better, store-best}
+use Rattle.tips.proofs.Put.{at-put}
+use Rattle.grid_state.proofs.Stores.{walls-better, store-best}
 use Rattle.grid_state.proofs.Queue.{Left, none-out, ended-kept, queue-first, queue-back, queue-ended}
 use Rattle.grid_state.proofs.Figures.{figure-in}
 use Rattle.grid_state.proofs.EntryTime.{known-roll, cell-time}

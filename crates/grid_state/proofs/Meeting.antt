@@ -21,7 +21,8 @@ use Rattle.grid_steps.specs.Steps.{InGrid, Offered, entryIn}
 use Rattle.grid_state.specs.Sweep.{Crowd}
 use Rattle.grid_state.specs.State.{Runs, Looked, Queued}
 use Rattle.grid_state.specs.Meeting.{Noticed, looks, has-ended, Both, Paired, known, looked, Meets, nobody, and-then, Frame, Busy, LiveCause, Later}
-use Rattle.grid_state.proofs.Stores.{at-put, best-better, store-best, look-first, mark-one, marked-both, both-kept, both-first}
+use Rattle.tips.proofs.Put.{at-put}
+use Rattle.grid_state.proofs.Stores.{best-better, store-best, look-first, mark-one, marked-both, both-kept, both-first}
 use Rattle.grid_state.proofs.Queue.{tip-same, tip-other, queue-own, queue-anew}
 
 pub later-refl : {S : Listing} {b : ℕ} {done : List Row} {w : Crowd} → Later S b done w w

@@ -2,9 +2,9 @@
 use mathlib.Core.List.{List, [], List·Memᴰ·not-nil}
 use mathlib.Core.Option.{none}
 use mathlib.Core.Path.{_≡_, refl, sym, ap, subst, _∙_}
-use Prim.Native.Nat.{ℕ, zero, suc, _<_}
+use Prim.Native.Nat.{ℕ, zero, suc}
 use native.Mathlib.Omega.{arith}
-use lib.ListN.{length, getD, replicate, length-replicate}
+use lib.ListN.{length, replicate, length-replicate}
 use Rattle.number_tables.proofs.Blank.{Blank, blank, same-at}
 use Rattle.sheet.specs.Accepted.{Accepted}
 use Rattle.sheet.specs.Listing.{Listing, _∈_}
@@ -14,11 +14,10 @@ use Rattle.event_queue.specs.Queue.{Slots, slot, slots, Holds}
 use Rattle.event_queue.proofs.Callers.{held-long, nothing}
 use Rattle.tips.specs.Tips.{Tip, tipIn, tipsIn}
 use Rattle.tips.proofs.Stored.{tips-long, tip-blank}
-use Rattle.pair_marks.specs.Marks.{marksIn}
 use Rattle.pair_marks.proofs.Stored.{marks-square, no-mark}
 use Rattle.cell_members.proofs.Chains.{members-long, count-blank, members-blank, linked-blank}
 use Rattle.grid_state.specs.State.{cellsAt, total}
-use Rattle.grid_state.specs.Sweep.{Sweep, sweepIn, Swept}
+use Rattle.grid_state.specs.Sweep.{sweepIn, Swept}
 use Rattle.grid_state.specs.Run.{StateOf, Starting}
 use Rattle.grid_state.proofs.Figures.{figure-in}
 

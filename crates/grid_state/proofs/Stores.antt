@@ -3,10 +3,8 @@ use mathlib.Core.List.{List}
 use mathlib.Core.Logic.{_⊎_, inl, inr, _≢_}
 use mathlib.Core.Path.{_≡_, sym, _∙_, subst}
 use Prim.Native.Nat.{ℕ, _≤_, _<_}
-use native.Mathlib.Decide.{ℕ-discrete}
 use native.Mathlib.Omega.{arith}
 use lib.ListN.{length, set, length-set}
-use lib.Seq.{getD-set-same, getD-set-other}
 use Rattle.sheet.specs.declared.Track.{Track}
 use Rattle.sheet.specs.Accepted.{Accepted}
 use Rattle.sheet.specs.HandedIn.{noTrack}
@@ -24,20 +22,13 @@ use Rattle.causes.specs.Looked.{Gone, FirstOfTracks}
 use Rattle.causes.proofs.Looking.{tip-looked}
 use Rattle.cells.specs.declared.Cell.{Cell}
 use Rattle.cells.specs.Touched.{CellsOf}
-use Rattle.tips.specs.Tips.{Tip, tipIn, noTip, withBest}
+use Rattle.tips.proofs.Put.{at-put}
+use Rattle.tips.specs.Tips.{Tip, tipIn, withBest}
 use Rattle.pair_marks.specs.Marks.{Marked, Square, marking}
 use Rattle.pair_marks.proofs.Marked.{mark-same, mark-kept, mark-only, square-kept}
 use Rattle.grid_steps.specs.Steps.{Offered}
 use Rattle.look.specs.Ends.{endOf}
 use Rattle.grid_state.specs.State.{cellsAt, Runs, Walls, Best, Base, Looked, Marks}
-
--- what holds of the new tip at i and of the others as they were holds of all
-pub at-put : (P : ℕ → Tip → Type 0) (ts : List Tip) (i : ℕ) (t : Tip) → i < length ts → P i t → ((j : ℕ) → j ≢ i → P j (tipIn ts j)) → (j : ℕ) → P j (tipIn (set ts i t) j)
-at-put P ts i t h p q j = go (ℕ-discrete j i)
-  where
-    go : Dec (j ≡ i) → P j (tipIn (set ts i t) j)
-    go (yes e) = subst (λ (k : ℕ). P k (tipIn (set ts i t) k)) (sym e) (subst (P i) (sym (getD-set-same ts i t noTip h)) p)
-    go (no n) = subst (P j) (sym (getD-set-other ts i j t noTip n)) (q j n)
 
 -- ---- a better cause
 

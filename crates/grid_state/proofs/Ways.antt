@@ -36,7 +36,7 @@ use Rattle.grid_state.specs.Meeting.Paired.{known, looked}
 use Rattle.grid_state.specs.Meeting.Meets.{nobody, and-then}
 use Rattle.grid_state.specs.Run.{StateOf, WayOf, Starting, Going}
 use Rattle.grid_state.proofs.Figures.{figure-in}
-use Rattle.grid_state.proofs.Stores.{at-put}
+use Rattle.tips.proofs.Put.{at-put}
 use Rattle.grid_state.proofs.Cells.{withBoth, both-put, here-put, enter-walls, looked-moved, open-tip}
 use Rattle.grid_state.proofs.Queue.{tip-same, queue-own, queue-back, queue-open}
 use Rattle.grid_state.proofs.Entering.{first-ahead, good-in, marked-enter, listed-enter, count-room, placed-enter, placed-kept}

@@ -1,30 +1,21 @@
--- From what the called functions give to what `by_track`, `end_tip` and `reach` give.
+-- From what the called functions give to what `by_track` and `reach` give.
 use mathlib.Core.Bool.{Bool, true, false}
-use mathlib.Core.List.{List, []}
+use mathlib.Core.List.{List}
 use mathlib.Core.Path.{_≡_, sym, ap, _∙_, subst}
 use Prim.Native.Nat.{ℕ, _*_}
 use lib.Dec.{leb}
-use lib.ListN.{getD}
-use lib.Seq.{sets}
-use Rattle.exact.specs.Time.{fraction}
 use Rattle.exact.specs.Small.{Small}
 use Rattle.sheet.specs.declared.Track.{Track}
-use Rattle.sheet.specs.Accepted.{TrackOk}
 use Rattle.sheet.specs.Listing.{Listing}
 use Rattle.rule.specs.declared.Ending.{Ending}
 use Rattle.rule.specs.declared.Ending.the-variants.{ByTrack, Meeting}
-use Rattle.rule.specs.declared.Row.{Row}
-use Rattle.rule.specs.Motion.{Inside}
-use Rattle.rule.specs.RowBytes.{rowBytes}
-use Rattle.row.specs.RowAt.{rowAt}
 use Rattle.causes.specs.declared.Cause.{Cause}
-use Rattle.causes.specs.Cause.{tipAt, Fine}
+use Rattle.causes.specs.Cause.{Fine}
 use Rattle.causes.proofs.First.{not-later, later}
-use Rattle.turn.specs.Ended.{Endable, EndingOf, meets, crosses}
-use Rattle.turn.proofs.Endings.{row-asked}
-use Rattle.tips.specs.Tips.{Tip, tipIn, withEnd}
+use Rattle.ending.specs.Ended.{EndingOf, meets, crosses}
+use Rattle.tips.specs.Tips.{Tip, tipIn}
 use Rattle.look.specs.Tracks.{LookedAgain}
-use Rattle.grid_turn.specs.Reached.{MayEnd, Finished, OfTrack}
+use Rattle.grid_turn.specs.Reached.{OfTrack}
 
 -- ---- how a track ends the tip, whose cause is c
 
@@ -47,18 +38,6 @@ module _ {i id : ℕ} {ts : List Tip} (o : OfTrack i id ts) (c : Cause) (e : c �
 
     pub is-crossing : b ≡ false → EndingOf (tipIn ts i .best) (ByTrack id)
     is-crossing h = subst (λ (d : Cause). EndingOf d (ByTrack id)) e (crosses own-class (later (own-fine .at) (own-fine .there) (sym t ∙ h)) (ap ByTrack own-id))
-
--- ---- the tip ends
-
-module _ {S : Listing} {i k : ℕ} {ts : List Tip} {a : Track} (p : a ≡ tipAt S i) (c : Cause) (q : c ≡ tipIn ts i .best) where
-  pub row-may : MayEnd S i k ts → TrackOk a × Small (c .u) (c .ud) × Inside a (fraction (c .u) (c .ud))
-  row-may m = row-asked q (subst (λ (b : Track). Endable b (tipIn ts i .best)) (sym p) (m .endable))
-
-  pub is-finished : {e : Ending} {row : Row} {out out′ : List ℕ} {ts′ : List Tip} → row ≡ rowAt a (fraction (c .u) (c .ud)) e → out′ ≡ sets out (29 * k) (rowBytes row) → ts′ ≡ withEnd ts i
-      → Finished S i k e ts out ts′ out′
-  is-finished {e} {out = out} r w n =
-      let same = r ∙ ap (λ (b : Track). rowAt b (fraction (c .u) (c .ud)) e) p ∙ ap (λ (d : Cause). rowAt (tipAt S i) (fraction (d .u) (d .ud)) e) q in
-      record { noted = n; written = w ∙ ap (λ (z : Row). sets out (29 * k) (rowBytes z)) same }
 
 -- ---- it looks again
 

@@ -1,22 +1,21 @@
 -- What each event leaves. Main theorems: `turn-over`, `turn-entered`, `turn-reached`, `turn-walled`, `turn-left`.
-use mathlib.Core.Logic.{inl, inr}
+use mathlib.Core.Logic.{inr}
 use mathlib.Core.List.{List}
 use mathlib.Core.Option.{none}
 use mathlib.Core.Path.{_≡_, refl, sym, ap, _∙_, subst}
 use Prim.Native.Nat.{ℕ, _+_, _*_, _/_, _<_}
 use native.Mathlib.Omega.{arith}
-use lib.ListN.{length, set}
+use lib.ListN.{set}
 use lib.Seq.{sets}
 use Rattle.sheet.specs.Listing.{Listing}
 use Rattle.rule.specs.declared.Ending.{Ending}
 use Rattle.rule.specs.declared.Ending.the-variants.{ByWall, Edge}
 use Rattle.rule.specs.declared.Row.{Row}
-use Rattle.rule.specs.Causes.{rowOf}
 use Rattle.rule.specs.RowBytes.{rowBytes}
 use Rattle.row.specs.RowAt.{rowAt}
-use Rattle.causes.specs.Cause.{tipAt, candOf}
-use Rattle.turn.specs.Ended.{EndingOf, strikes, leaves, nextRow}
-use Rattle.turn.proofs.Endings.{ending-is}
+use Rattle.causes.specs.Cause.{tipAt}
+use Rattle.ending.specs.Ended.{EndingOf, strikes, leaves, nextRow}
+use Rattle.ending.proofs.Endings.{ending-is}
 use Rattle.cells.specs.Grid.{Figure, g1, g2, g4, g8, g16, g32, side}
 use Rattle.event_queue.specs.declared.Event.{Event}
 use Rattle.event_queue.specs.declared.Event.the-variants as event
@@ -35,7 +34,8 @@ use Rattle.grid_state.specs.Meeting.{Enters}
 use Rattle.grid_state.proofs.Events.{altered, Onward, event-here, event-stands, event-tell, event-free, track-event, wall-event, edge-event, entry-time, event-way, going-entered}
 use Rattle.grid_state.proofs.Events.{again-looks, again-enters, going-again, fresh-counts, wall-counts, edge-counts, ended-row, ended-room, ended-endable, going-ended}
 use Rattle.grid_turn.specs.declared.Outcome.the-variants.{Rows, Over}
-use Rattle.grid_turn.specs.Reached.{MayEnd, Finished, OfTrack, MayReach, Reached, again, ended}
+use Rattle.ending.specs.Finished.{MayEnd, Finished}
+use Rattle.grid_turn.specs.Reached.{OfTrack, MayReach, Reached, again, ended}
 use Rattle.grid_turn.specs.Turned.{Wrote, no-row, one-row, InTime, Turned}
 
 pub figure-some : {g : ℕ} → Figure g → 0 < g

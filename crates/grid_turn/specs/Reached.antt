@@ -3,35 +3,19 @@ use mathlib.Core.Path.{_≡_}
 use mathlib.Core.Bool.{true, false}
 use mathlib.Core.Option.{some}
 use mathlib.Core.List.{List, []}
-use Prim.Native.Nat.{ℕ, _+_, _*_, _<_}
-use lib.ListN.{length, getD, set}
-use lib.Seq.{sets}
+use Prim.Native.Nat.{ℕ, _+_, _<_}
+use lib.ListN.{getD, set}
 use Rattle.sheet.specs.Listing.{Listing}
 use Rattle.rule.specs.declared.Ending.{Ending}
-use Rattle.rule.specs.RowBytes.{rowBytes}
-use Rattle.row.specs.RowAt.{rowAt}
-use Rattle.causes.specs.Cause.{tipAt, Fine}
-use Rattle.turn.specs.Ended.{Endable, EndingOf}
+use Rattle.causes.specs.Cause.{Fine}
+use Rattle.ending.specs.Ended.{EndingOf}
+use Rattle.ending.specs.Finished.{MayEnd, Finished}
 use Rattle.event_queue.specs.Queue.{Free}
-use Rattle.tips.specs.Tips.{Tip, tipIn, withEnd}
-use Rattle.look.specs.Ends.{endOf}
+use Rattle.tips.specs.Tips.{Tip, tipIn}
 use Rattle.look.specs.Counts.{MayTell, stale}
 use Rattle.look.specs.Tracks.{MayLookOn, LookedAgain}
 use Rattle.grid_steps.specs.Steps.{MayEnter, entryIn}
 use Rattle.grid_state.specs.Sweep.{Crowd}
-
--- ---- the tip at i ends
-
--- it is on the sheet when it does, and there is a row to come after k
-pub record MayEnd (S : Listing) (i k : ℕ) (ts : List Tip) : Type 0 where
-  pub tip-in : i < length (S .tracks)
-  pub endable : Endable (tipAt S i) (tipIn ts i .best)
-  pub more : k < length (S .tracks)
-
--- its row is at place k
-pub record Finished (S : Listing) (i k : ℕ) (e : Ending) (ts : List Tip) (out : List ℕ) (ts′ : List Tip) (out′ : List ℕ) : Type 0 where
-  pub noted : ts′ ≡ withEnd ts i
-  pub written : out′ ≡ sets out (29 * k) (rowBytes (rowAt (tipAt S i) (endOf (tipIn ts i)) e))
 
 -- ---- the tip at i reaches a track
 

@@ -13,7 +13,7 @@ use Rattle.rule.specs.RowBytes.{rowBytes}
 use Rattle.rule.specs.Rows.{timeOf}
 use Rattle.rule.specs.Selection.{rollOf}
 use Rattle.causes.specs.Cause.{tipAt}
-use Rattle.turn.specs.Ended.{nextRow}
+use Rattle.ending.specs.Ended.{nextRow}
 use Rattle.cells.specs.EnteredAt.{EnteredAt}
 use Rattle.cells.specs.Grid.{side}
 use Rattle.event_queue.specs.declared.Event.{Event}

@@ -1,13 +1,11 @@
 // An event of the grid run: a cell entered, a track, a wall or the edge reached (SHEETS 6.8).
-ghost use mathlib.Core.Path.{_≡_};
-ghost use Prim.Native.Nat.{_+_, _*_, _≤_, _<_};
-ghost use lib.ListN.{length};
-ghost use Rattle.turn.specs.Ended.{EndingOf};
+ghost use Rattle.ending.specs.Ended.{EndingOf};
+ghost use Rattle.ending.specs.Finished.{RoomFor};
 ghost use Rattle.records.specs.Records.{Recorded, sheetIn};
 ghost use Rattle.tips.specs.Tips.{Room, tipsIn, tipIn};
 ghost use Rattle.grid_state.specs.Sweep.{crowdIn, sweepIn, Crowded, Swept};
 ghost use Rattle.grid_state.specs.Run.{Going};
-ghost use Rattle.grid_turn.specs.Reached.{MayEnd, Finished, OfTrack, MayReach, Reached};
+ghost use Rattle.grid_turn.specs.Reached.{OfTrack, MayReach, Reached};
 ghost use Rattle.grid_turn.specs.Turned.{Wrote, Turned};
 use cells::Cell;
 use event_queue::Event;
@@ -18,26 +16,6 @@ use rule::Ending;
 pub enum Outcome {
     Rows(usize),
     Over,
-}
-
-// The tip at i ends by its cause; its row comes after the `rows` that are out.
-fn end_tip(
-    records: &[u16],
-    i: usize,
-    ending: Ending,
-    rows: usize,
-    tips: &mut [u64],
-    out: &mut [u8],
-) -> usize
-    requires { ⌜ Recorded (now records) × Room (now tips) × MayEnd (sheetIn (now records)) i rows (tipsIn (now tips)) × (29 * length (sheetIn (now records) .tracks) ≤ length (now out)) ⌝ }
-    ensures { λ r. ⌜ (r ≡ rows + 1) × Finished (sheetIn (now (records .entry))) i rows ending (tipsIn (now (tips .entry))) (now (out .entry)) (tipsIn (now (tips .exit))) (now (out .exit)) ⌝ }
-{
-    let a = records::track_at(records, i);
-    let cause = tips::best_of(tips, i);
-    let row = row::row_of(a, cause.u, cause.ud, ending);
-    row::put_row(out, 29 * rows, row);
-    tips::put_end(tips, i);
-    rows + 1
 }
 
 // How a track of this id ends the tip at i.
@@ -64,7 +42,7 @@ fn reach(
     marks: &[u8],
     out: &mut [u8],
 ) -> usize
-    requires { ⌜ Recorded (now records) × Crowded (MayReach (sheetIn (now records)) side i id rows) (now tips) (now queue) (now marks) × (29 * length (sheetIn (now records) .tracks) ≤ length (now out)) ⌝ }
+    requires { ⌜ Recorded (now records) × Crowded (MayReach (sheetIn (now records)) side i id rows) (now tips) (now queue) (now marks) × RoomFor (sheetIn (now records)) (now out) ⌝ }
     ensures { λ r. ⌜ Crowded (Reached (sheetIn (now (records .entry))) side i rows (crowdIn (now (tips .entry)) (now (queue .entry)) (now (marks .entry))) (now (out .entry)) r (now (out .exit)))
         (now (tips .exit)) (now (queue .exit)) (now (marks .entry)) ⌝ }
 {
@@ -75,7 +53,7 @@ fn reach(
         return rows;
     }
     let ending = by_track(tips, i, id);
-    end_tip(records, i, ending, rows, tips, out)
+    ending::end_tip(records, i, ending, rows, tips, out)
 }
 
 // The next event.
@@ -89,7 +67,7 @@ pub fn turn(
     members: &mut [u16],
     out: &mut [u8],
 ) -> Outcome
-    requires { ⌜ Recorded (now records) × Swept (Going (sheetIn (now records)) g rows) (now tips) (now queue) (now marks) (now members) × (29 * length (sheetIn (now records) .tracks) ≤ length (now out)) ⌝ }
+    requires { ⌜ Recorded (now records) × Swept (Going (sheetIn (now records)) g rows) (now tips) (now queue) (now marks) (now members) × RoomFor (sheetIn (now records)) (now out) ⌝ }
     ensures { λ r. ⌜ Swept (Turned (sheetIn (now (records .entry))) g rows (sweepIn (now (tips .entry)) (now (queue .entry)) (now (marks .entry)) (now (members .entry))) r)
         (now (tips .exit)) (now (queue .exit)) (now (marks .exit)) (now (members .exit)) ⌝ }
     ensures { λ r. ⌜ Wrote (sheetIn (now (records .entry))) rows (now (out .entry)) r (now (out .exit)) ⌝ }
@@ -110,9 +88,9 @@ pub fn turn(
             }
             Event::Wall(id) => {
                 let ending = Ending::ByWall(id);
-                Outcome::Rows(end_tip(records, i, ending, rows, tips, out))
+                Outcome::Rows(ending::end_tip(records, i, ending, rows, tips, out))
             }
-            Event::Edge => Outcome::Rows(end_tip(records, i, Ending::Edge, rows, tips, out)),
+            Event::Edge => Outcome::Rows(ending::end_tip(records, i, Ending::Edge, rows, tips, out)),
         },
         Next::Nothing => Outcome::Over,
     }
