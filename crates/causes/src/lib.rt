@@ -1,15 +1,13 @@
 // The causes that end a tip, and which of them comes first (SHEETS 4.6, 4.9).
 ghost use mathlib.Core.Path.{_≡_};
 ghost use mathlib.Core.Bool.{true, false};
-ghost use Prim.Native.Nat.{_+_, _≤_, _<_};
-ghost use lib.ListN.{length};
+ghost use Prim.Native.Nat.{_≤_, _<_};
 ghost use Rattle.sheet.specs.Accepted.{TrackOk, WallOk};
 ghost use Rattle.exact.specs.Small.{Small};
 ghost use Rattle.contact.specs.Answers.{TouchSmall};
-ghost use Rattle.lines.specs.Lines.{Tracked, Walled};
 ghost use Rattle.causes.specs.Cause.{Fine, Tells, Least};
 ghost use Rattle.causes.specs.Offer.{AtEdge, WallOffered, Reached, Taken};
-ghost use Rattle.causes.specs.Looked.{Reaches, WallsLooked, TracksLooked, Tables};
+ghost use Rattle.causes.specs.Looked.{Reaches};
 use contact::Moment;
 use contact::Touch;
 use sheet::Track;
@@ -179,54 +177,4 @@ pub fn reaches(a: u16, b: u16, low: u64, high: u64) -> bool
     let a = a as u64;
     let b = b as u64;
     ((a < high) | (b < high)) & ((low <= a) | (low <= b))
-}
-
-// The first of c and the walls whose box comes to the part p.
-pub fn look_walls(walls: &[u16], m: usize, a: Track, p: Region, c: Cause) -> Cause
-    requires { ⌜ Walled (now walls) m × TrackOk a × Fine c ⌝ }
-    ensures { λ r. ⌜ WallsLooked (now (walls .entry)) m a p c r ⌝ }
-{
-    let mut c = c;
-    let mut k: usize = 0;
-    while k < m {
-        let w = lines::wall_at(walls, k);
-        if reaches(w.ax, w.bx, p.left, p.right) {
-            if reaches(w.ay, w.by, p.low, p.high) {
-                c = with_wall(c, a, w, k);
-            }
-        }
-        k += 1;
-    }
-    c
-}
-
-// The first of c and the tracks k with a flag at known[at + k], for the tip at i. over[k] is 0 while the tip at k runs, and
-// table[7 k] / table[7 k + 1] is the time at which it ended.
-pub fn look_tracks(
-    starts: &[u16],
-    speeds: &[u8],
-    n: usize,
-    i: usize,
-    c: Cause,
-    table: &[u64],
-    over: &[u64],
-    known: &[u8],
-    at: usize,
-) -> Cause
-    requires { ⌜ Tracked (now starts) (now speeds) n × (i < n) × Fine c × Tables n (now table) (now over) × (at + n ≤ length (now known)) ⌝ }
-    ensures { λ r. ⌜ TracksLooked (now (starts .entry)) (now (speeds .entry)) n i (now (table .entry)) (now (over .entry)) (now (known .entry)) at c r ⌝ }
-{
-    let a = lines::track_at(starts, speeds, i);
-    let mut c = c;
-    let mut k: usize = 0;
-    while k < n {
-        if known[at + k] != 0 {
-            let b = lines::track_at(starts, speeds, k);
-            let p = 7 * k;
-            let t = on_trace(a, b, over[k], table[p], table[p + 1]);
-            c = with_track(c, b, k, t);
-        }
-        k += 1;
-    }
-    c
 }

@@ -4,7 +4,7 @@ ghost use Rattle.sheet.specs.Listing.{listing};
 ghost use Rattle.sheet.specs.Returned.{accepted};
 ghost use Rattle.sheet.specs.Scan.{verdictOf, commandsOf};
 ghost use Rattle.sheet.specs.HandedIn.{handedIn, checkOf};
-ghost use Rattle.lines.specs.Lines.{Handed};
+ghost use Rattle.records.specs.Records.{Handed};
 ghost use Rattle.grid_run.specs.GridRolled.{GridRolls};
 ghost use Rattle.grid_run.specs.Exchanged.{Exchanges};
 pub use cells::is_figure;

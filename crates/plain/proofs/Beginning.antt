@@ -10,7 +10,7 @@ use Rattle.sheet.specs.Accepted.{Accepted}
 use Rattle.sheet.specs.HandedIn.{handedIn, noTrack}
 use Rattle.sheet.specs.Listing.{Listing}
 use Rattle.sheet.specs.declared.Sheet.{Sheet}
-use Rattle.lines.specs.Lines.{Handed}
+use Rattle.records.specs.Records.{Handed}
 use Rattle.rule.proofs.Turn.{progress-start}
 use Rattle.causes.specs.declared.Cause.{Cause}
 use Rattle.causes.specs.Cause.{tipAt}

@@ -13,7 +13,7 @@ use Rattle.sheet.proofs.Lent as ending
 use Rattle.rule.specs.RowBytes.{rollBytes}
 use Rattle.rule.specs.Selection.{rollOf}
 use Rattle.row.specs.Written.{Written}
-use Rattle.lines.specs.Lines.{Handed}
+use Rattle.records.specs.Records.{Handed}
 use Rattle.rule.proofs.RowBytes.{roll-bytes-length}
 use Rattle.sheet.specs.declared.Answer.{Answer}
 use Rattle.sheet.specs.declared.Answer.the-variants.{Gives, Refused}

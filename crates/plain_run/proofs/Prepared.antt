@@ -27,7 +27,7 @@ use Rattle.sheet.proofs.Sheet.{the-type}
 use Rattle.sheet.proofs.Lists.{take-in, sized}
 use Rattle.sheet.proofs.RoundTrip.{all-fit, accepted-exactly, accepted-records, listed, handed-back}
 use Rattle.reader.specs.Reading.{ifAccepted, recordsOf}
-use Rattle.lines.specs.Lines.{Handed}
+use Rattle.records.specs.Records.{Handed}
 
 -- what the type of an array's elements says of each
 each-in : {A D : Type 0} (f : A → D) (own : D → List Val → Fml) (P : A → Type 0) → ((a : A) (u : Val) → shadow (own (f a) (u ∷ [])) → P a) → (l : List A) (us : List Val) → shadow (each D own (map f l) us) → (a : A) → a ∈ l → P a

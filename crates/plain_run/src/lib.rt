@@ -3,7 +3,7 @@ ghost use Rattle.sheet.specs.Listing.{listing};
 ghost use Rattle.sheet.specs.Returned.{accepted};
 ghost use Rattle.sheet.specs.Scan.{verdictOf, commandsOf};
 ghost use Rattle.sheet.specs.HandedIn.{handedIn, checkOf};
-ghost use Rattle.lines.specs.Lines.{Handed};
+ghost use Rattle.records.specs.Records.{Handed};
 ghost use Rattle.plain_run.specs.Rolled.{Rolls};
 use sheet::Answer;
 use sheet::Sheet;

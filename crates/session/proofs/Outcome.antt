@@ -11,7 +11,7 @@ use Rattle.sheet.specs.Lent.{andThen}
 use Rattle.sheet.proofs.Lent as ending
 use Rattle.rule.specs.RowBytes.{rollBytes}
 use Rattle.rule.proofs.Existence.{roll-length}
-use Rattle.lines.specs.Lines.{Handed}
+use Rattle.records.specs.Records.{Handed}
 use Rattle.sheet.specs.declared.Answer.{Answer}
 use Rattle.plain_run.proofs.Outcome.{tracks-count}
 use Rattle.sheet.specs.declared.Answer.the-variants.{Gives, Refused}

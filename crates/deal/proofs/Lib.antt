@@ -1,2 +1,0 @@
-pub mod Deals
-pub mod Cases

@@ -1,4 +1,0 @@
-pub mod State
-pub mod Busy
-pub mod ToDo
-pub mod Run

@@ -1,4 +1,0 @@
-pub mod Listed
-pub mod Counts
-pub mod LookedAgain
-pub mod Ended
