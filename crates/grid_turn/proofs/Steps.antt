@@ -1,10 +1,9 @@
 -- From what the called functions give to what `by_track`, `end_tip` and `reach` give.
 use mathlib.Core.Bool.{Bool, true, false}
-use mathlib.Core.List.{List, []}
+use mathlib.Core.List.{List}
 use mathlib.Core.Path.{_≡_, sym, ap, _∙_, subst}
 use Prim.Native.Nat.{ℕ, _*_}
 use lib.Dec.{leb}
-use lib.ListN.{getD}
 use lib.Seq.{sets}
 use Rattle.exact.specs.Time.{fraction}
 use Rattle.exact.specs.Small.{Small}

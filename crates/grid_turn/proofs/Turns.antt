@@ -1,20 +1,19 @@
 -- What each event leaves. Main theorems: `turn-over`, `turn-entered`, `turn-reached`, `turn-walled`, `turn-left`.
-use mathlib.Core.Logic.{inl, inr}
+use mathlib.Core.Logic.{inr}
 use mathlib.Core.List.{List}
 use mathlib.Core.Option.{none}
 use mathlib.Core.Path.{_≡_, refl, sym, ap, _∙_, subst}
 use Prim.Native.Nat.{ℕ, _+_, _*_, _/_, _<_}
 use native.Mathlib.Omega.{arith}
-use lib.ListN.{length, set}
+use lib.ListN.{set}
 use lib.Seq.{sets}
 use Rattle.sheet.specs.Listing.{Listing}
 use Rattle.rule.specs.declared.Ending.{Ending}
 use Rattle.rule.specs.declared.Ending.the-variants.{ByWall, Edge}
 use Rattle.rule.specs.declared.Row.{Row}
-use Rattle.rule.specs.Causes.{rowOf}
 use Rattle.rule.specs.RowBytes.{rowBytes}
 use Rattle.row.specs.RowAt.{rowAt}
-use Rattle.causes.specs.Cause.{tipAt, candOf}
+use Rattle.causes.specs.Cause.{tipAt}
 use Rattle.turn.specs.Ended.{EndingOf, strikes, leaves, nextRow}
 use Rattle.turn.proofs.Endings.{ending-is}
 use Rattle.cells.specs.Grid.{Figure, g1, g2, g4, g8, g16, g32, side}

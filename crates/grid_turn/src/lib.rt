@@ -1,6 +1,6 @@
 // An event of the grid run: a cell entered, a track, a wall or the edge reached (SHEETS 6.8).
 ghost use mathlib.Core.Path.{_≡_};
-ghost use Prim.Native.Nat.{_+_, _*_, _≤_, _<_};
+ghost use Prim.Native.Nat.{_+_, _*_, _≤_};
 ghost use lib.ListN.{length};
 ghost use Rattle.turn.specs.Ended.{EndingOf};
 ghost use Rattle.records.specs.Records.{Recorded, sheetIn};
