@@ -1,6 +1,5 @@
 -- `reach` ends the tip at i, or lets it look again.
 use mathlib.Core.Path.{refl, sym, ap, _∙_}
-use native.Mathlib.Omega.{arith}
 use borrow.Author.Needs.{needs}
 use lib.ListN.{length}
 use Rattle.pair_marks.proofs.Stored.{row-long}

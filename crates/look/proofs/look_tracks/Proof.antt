@@ -1,9 +1,9 @@
 -- `look_tracks` gives the first of a cause and the tracks with a flag. The invariant: of those so far.
 use borrow.Author.Needs.{needs}
 use native.Mathlib.Omega.{arith}
-use Prim.Native.Nat.{ℕ, _+_, _≤_, _<_, _-_}
+use Prim.Native.Nat.{_+_, _≤_, _<_, _-_}
 use lib.ListN.{length}
-use mathlib.Core.Path.{_≡_, sym, subst}
+use mathlib.Core.Path.{sym, subst}
 use mathlib.Core.Logic.{⊎-elim}
 use Rattle.causes.proofs.Answers.{reached-small}
 use Rattle.records.specs.Records.{sheetIn}
