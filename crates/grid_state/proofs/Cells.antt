@@ -65,8 +65,8 @@ base-more {S} {side} {l} {a} k {c} {r} f o =
     go j m u e (inl x) = f .at-walls j m x u e
     go j m u e (inr x) = better .at-walls j m x u e
 
-pub best-more : {S : Listing} {done : List Row} {side : ℕ} {l l′ : List Cell} {marks : List (List ℕ)} {i : ℕ} {d c r : Cause} → Base S side l′ (tipAt S i) d → Stands S (tipAt S i) r → candOf S r ≼ candOf S c → candOf S r ≼ candOf S d
-    → Best S done side l marks i c → Best S done side l′ marks i r
+pub best-more : {S : Listing} {done : List Row} {side : ℕ} {l l′ : List Cell} {marks : List (List ℕ)} {i : ℕ} {d c r : Cause}
+    → Base S side l′ (tipAt S i) d → Stands S (tipAt S i) r → candOf S r ≼ candOf S c → candOf S r ≼ candOf S d → Best S done side l marks i c → Best S done side l′ marks i r
 best-more o t h g x = record { walls = walls-better t g (o .walls); at-tips = λ j m y z. beats-better h (x .at-tips j m y z) }
 
 module _ {S : Listing} {done : List Row} {side : ℕ} {es : List (List Cell)} {b : ℕ} {ts : List Tip} {marks : List (List ℕ)} (lk : Looked S done side es b ts marks)
@@ -113,7 +113,8 @@ module _ {S : Listing} {done : List Row} {side : ℕ} {es : List (List Cell)} {b
 
 -- ---- the tip is in another cell
 
-pub looked-moved : {S : Listing} {done : List Row} {side : ℕ} {es : List (List Cell)} {b : ℕ} {ts : List Tip} {marks : List (List ℕ)} → Looked S done side es b ts marks → (i : ℕ) → i < 256 → (k : Cell) → Looked S done side es b (withCell ts i k) marks
+pub looked-moved : {S : Listing} {done : List Row} {side : ℕ} {es : List (List Cell)} {b : ℕ} {ts : List Tip} {marks : List (List ℕ)} → Looked S done side es b ts marks
+    → (i : ℕ) → i < 256 → (k : Cell) → Looked S done side es b (withCell ts i k) marks
 looked-moved {S} {done} {side} {es} {b} {ts} {marks} lk i small k =
     record {
       long = length-set ts i new ∙ lk .long;

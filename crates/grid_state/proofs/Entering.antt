@@ -237,8 +237,8 @@ module _ (es : List (List Cell)) (i : ℕ) (room : i < length es) (k : Cell) whe
   count-room ls short = omega (arith, ls .counted, total-set k es i room, total-few es′ (few-more (ls .few) short), length-set es i (k ∷ cellsAt es i))
 
   -- and stands there
-  pub placed-enter : {b : ℕ} {S : Listing} {done : List Row} {side : ℕ} {ts : List Tip} → i < length ts → InGrid side k → Entered (tipAt S i) (rim (tipAt S i)) side k (k ∷ cellsAt es i) → Ahead S done side (tipAt S i) k
-      → Placed S done side es b i ts → Placed S done side es′ b 256 (withCell ts i k)
+  pub placed-enter : {b : ℕ} {S : Listing} {done : List Row} {side : ℕ} {ts : List Tip} → i < length ts → InGrid side k
+      → Entered (tipAt S i) (rim (tipAt S i)) side k (k ∷ cellsAt es i) → Ahead S done side (tipAt S i) k → Placed S done side es b i ts → Placed S done side es′ b 256 (withCell ts i k)
   placed-enter {b} {S} {done} {side} {ts} h small e o pl =
       record {
         in-grid = at-put (λ (j : ℕ) (t : Tip). j < b → j ≢ 256 → InGrid side (t .cell)) ts i new h (λ l n. small) (λ j d l n. pl .in-grid j l d);
@@ -252,8 +252,8 @@ module _ (es : List (List Cell)) (i : ℕ) (room : i < length es) (k : Cell) whe
       new = record { best = tipIn ts i .best; base = tipIn ts i .base; ended = tipIn ts i .ended; cell = k }
 
 -- the tips run as before, and are where they were
-pub placed-kept : {S : Listing} {done : List Row} {side : ℕ} {es : List (List Cell)} {b x : ℕ} {ts ts′ : List Tip} → ((j : ℕ) → tipIn ts′ j .ended ≡ tipIn ts j .ended) → ((j : ℕ) → tipIn ts′ j .cell ≡ tipIn ts j .cell)
-    → Placed S done side es b x ts → Placed S done side es b x ts′
+pub placed-kept : {S : Listing} {done : List Row} {side : ℕ} {es : List (List Cell)} {b x : ℕ} {ts ts′ : List Tip}
+    → ((j : ℕ) → tipIn ts′ j .ended ≡ tipIn ts j .ended) → ((j : ℕ) → tipIn ts′ j .cell ≡ tipIn ts j .cell) → Placed S done side es b x ts → Placed S done side es b x ts′
 placed-kept {S} {done} {side} {es} {b} {x} {ts} {ts′} e f pl =
     record {
       in-grid = λ j l n. subst (InGrid side) (sym (f j)) (pl .in-grid j l n);

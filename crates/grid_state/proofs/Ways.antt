@@ -27,7 +27,7 @@ use Rattle.tips.specs.Tips.{Tip, tipIn, withBest, withBase, withCell}
 use Rattle.pair_marks.specs.Marks.{Marked}
 use Rattle.grid_steps.specs.Steps.{InGrid, MayLookHere, MayEnter, Offered, Here, entryIn}
 use Rattle.grid_state.specs.Sweep.{Crowd, Sweep}
-use Rattle.grid_state.specs.State.{codeOf, cellsAt, Runs, Looked, Marks, Ahead, Placed, Queued}
+use Rattle.grid_state.specs.State.{codeOf, cellsAt, Looked, Marks, Ahead, Placed, Queued}
 use Rattle.grid_state.specs.Meeting.{Noticed, Paired, Meets, Frame, Busy, MayMeet, LiveCause, Later, Enters}
 use Rattle.grid_state.specs.Meeting.Noticed.{looks, has-ended}
 use Rattle.grid_state.specs.Meeting.Paired.{known, looked}
@@ -322,7 +322,10 @@ module _ {S : Listing} {g i : ℕ} {w : Sweep} (st : Starting S g i w) (more : i
         es = set (st .es) i (first (tipAt S i) (side g) ∷ cellsAt (st .es) i);
         figure = st .figure;
         state = way-end start-way e;
-        none-ended = λ j. way-later start-way e .ended-same j ∙ field-kept (λ (t : Tip). t .ended) (withBase (w .crowd .tips) i c) i _ refl j ∙ field-kept (λ (t : Tip). t .ended) (w .crowd .tips) i _ refl j ∙ st .none-ended j;
+        none-ended =
+            λ j.
+            way-later start-way e .ended-same j ∙ field-kept (λ (t : Tip). t .ended) (withBase (w .crowd .tips) i c) i _ refl j
+            ∙ field-kept (λ (t : Tip). t .ended) (w .crowd .tips) i _ refl j ∙ st .none-ended j;
         none-in = λ j h. getD-set-other (st .es) i j (first (tipAt S i) (side g) ∷ cellsAt (st .es) i) [] (λ z. omega arith) ∙ st .none-in j (omega arith);
       }
 

@@ -23,10 +23,17 @@ loop-holds : tie.Need-loop-holds Inv-loop μ-loop
 loop-holds c = (omega arith, c .before .before .before .before .before .before .pre .1)
 
 start-tip-requires : tie.Need-start-tip-requires Inv-loop μ-loop
-start-tip-requires c κs = (c .before .before .before .before .before .before .before .before .before .before .before .before .pre .0, omega (arith, c .before .before .before .before .loop-test .taken, c .before .before .before .before .before .before .track-count .ensures), c .before .before .before .before .before .loop .inv .1)
+start-tip-requires c κs =
+    let test = c .before .before .before .before in
+    let turn = test .before in
+    let count = turn .before in
+    (count .before .before .before .before .before .before .pre .0, omega (arith, test .loop-test .taken, count .track-count .ensures), turn .loop .inv .1)
 
 add-i : tie.Need-add-i Inv-loop μ-loop
-add-i c = omega (arith, c .before .before .before .before .before .before .before .before .before .before .before .before .before .loop-test .taken, c .before .before .before .before .before .before .before .before .before .before .before .before .before .before .before .track-count .ensures, c .before .before .before .before .before .before .before .before .before .before .before .before .before .before .before .before .before .before .before .before .before .pre .0 .accepted .few-tracks)
+add-i c =
+    let test = c .before .before .before .before .before .before .before .before .before .before .before .before .before in
+    let count = test .before .before in
+    omega (arith, test .loop-test .taken, count .track-count .ensures, count .before .before .before .before .before .before .pre .0 .accepted .few-tracks)
 
 loop-less : tie.Need-loop-less Inv-loop μ-loop
 loop-less c = search needs

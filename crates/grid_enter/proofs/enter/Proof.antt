@@ -18,26 +18,33 @@ look-here-requires c κs =
 
 meet-requires : tie.Need-meet-requires
 meet-requires c κs =
-    let p = c .before .before .before .before .before .before .before .before .before .before .before .before .before .before .before .pre in
+    let seen = c .before .before .before .before .before .before in
+    let p = seen .before .before .before .before .before .before .before .before .before .pre in
     let w = p .1 .holds .way in
-    (p .0, p .1 .linked, way-code w, record { tips-room = search needs; queue = p .1 .queue; marks-room = p .1 .marks-room; holds = way-meet w (c .before .before .before .before .before .before .look-here .ensures) })
+    (p .0, p .1 .linked, way-code w, record { tips-room = search needs; queue = p .1 .queue; marks-room = p .1 .marks-room; holds = way-meet w (seen .look-here .ensures) })
 
 join-requires : tie.Need-join-requires
 join-requires c κs =
-    let p = c .before .before .before .before .before .before .before .before .before .before .before .before .before .before .before .before .before .before .before .before .before .before .before .pre in
-    let w = p .1 .holds .way in
-    (p .1 .linked, way-count w, way-code w, way-place w .1)
+    let p = c .before .before .before .before .before .before .before .before .before .before .before .before .before .before .before .before .before .before .before .before .before .before .before .pre .1 in
+    let w = p .holds .way in
+    (p .linked, way-count w, way-code w, way-place w .1)
 
 put-cell-requires : tie.Need-put-cell-requires
-put-cell-requires c κs = (c .before .before .before .before .before .before .before .before .before .before .before .meet .ensures .tips-room, way-place (c .before .before .before .before .before .before .before .before .before .before .before .before .before .before .before .before .before .before .before .before .before .before .before .before .before .before .before .pre .1 .holds .way) .1)
+put-cell-requires c κs =
+    let met = c .before .before .before .before .before .before .before .before .before .before .before in
+    let entry = met .before .before .before .before .before .before .before .before .before .before .before .before .before .before .before .before in
+    (met .meet .ensures .tips-room, way-place (entry .pre .1 .holds .way) .1)
 
 put-back-requires : tie.Need-put-back-requires
 put-back-requires c κs =
-    let p = c .before .before .before .before .before .before .before .before .before .before .before .before .before .before .before .before .before .before .before .before .before .before .before .before .before .before .before .before .before .before .before .before .pre in
+    let cell = c .before .before .before .before in
+    let met = cell .before .before .before .before .before .before .before .before .before .before .before .before in
+    let seen = met .before .before .before .before .before .before .before in
+    let p = seen .before .before .before .before .before .before .before .before .before .pre in
     let w = p .1 .holds .way in
-    let here = c .before .before .before .before .before .before .before .before .before .before .before .before .before .before .before .before .before .before .before .before .before .before .before .look-here .ensures in
-    let met = c .before .before .before .before .before .before .before .before .before .before .before .before .before .before .before .before .meet .ensures in
-    (p .0, search needs, way-back w here (met .holds) (c .before .before .before .before .put-cell .ensures), met .queue, way-free w here (met .holds))
+    let here = seen .look-here .ensures in
+    let m = met .meet .ensures in
+    (p .0, search needs, way-back w here (m .holds) (cell .put-cell .ensures), m .queue, way-free w here (m .holds))
 
 same-length : tie.Need-same-length
 same-length c = search needs
@@ -53,24 +60,29 @@ same-length-4 c = search needs
 
 returns : tie.Need-returns
 returns c =
-    let back = c .before .before .put-back .ensures in
-    let joined = c .before .before .before .before .before .before .before .before .before .before .before .join .ensures in
-    let met = c .before .before .before .before .before .before .before .before .before .before .before .before .before .before .before .before .before .before .before .meet .ensures in
+    let back = c .before .before in
+    let cell = back .before .before .before .before .before in
+    let joined = cell .before .before .before .before in
+    let met = joined .before .before .before .before .before .before .before .before in
+    let seen = met .before .before .before .before .before .before .before in
+    let q = back .put-back .ensures in
+    let j = joined .join .ensures in
+    let m = met .meet .ensures in
     record {
       tips-room = search needs;
-      queue = back .queue;
-      marks-room = met .marks-room;
-      linked = joined .linked;
+      queue = q .queue;
+      marks-room = m .marks-room;
+      linked = j .linked;
       holds = record {
         seen = _;
         met = _;
-        walls = c .before .before .before .before .before .before .before .before .before .before .before .before .before .before .before .before .before .before .before .before .before .before .before .before .before .before .look-here .ensures;
-        meets = met .holds;
-        tips = c .before .before .before .before .before .before .before .put-cell .ensures;
-        pending = back .holds;
+        walls = seen .look-here .ensures;
+        meets = m .holds;
+        tips = cell .put-cell .ensures;
+        pending = q .holds;
         marks = refl;
-        members = joined .members;
-        entered = joined .counted;
+        members = j .members;
+        entered = j .counted;
       };
     }
 

@@ -29,8 +29,13 @@ first-cell-requires c κs = side-pos (c .before .before .before .before .before 
 
 enter-requires : tie.Need-enter-requires
 enter-requires c κs =
-    let p = c .before .before .before .before .before .before .before .before .before .before .before .before .before .before .before .before .before .before .before .before .pre in
-    let way = starts (p .2 .holds) (p .1) (c .before .before .before .before .before .before .before .before .before .before .before .before .before .before .track-at .ensures) (c .before .before .before .before .before .before .before .before .before .before .before .before .before .edge-cause .ensures) (c .before .before .before .before .before .before .before .before .before .before .before .put-base .ensures) (c .before .before .before .before .before .before .before .put-best .ensures) (c .before .before .before .before .first-cell .ensures) in
+    let cell = c .before .before .before .before in
+    let best = cell .before .before .before in
+    let base = best .before .before .before .before in
+    let edge = base .before .before in
+    let read = edge .before in
+    let p = read .before .before .before .before .before .before .pre in
+    let way = starts (p .2 .holds) (p .1) (read .track-at .ensures) (edge .edge-cause .ensures) (base .put-base .ensures) (best .put-best .ensures) (cell .first-cell .ensures) in
     (p .0, record { tips-room = search needs; queue = p .2 .queue; marks-room = p .2 .marks-room; linked = p .2 .linked; holds = way })
 
 same-length : tie.Need-same-length
@@ -47,10 +52,16 @@ same-length-4 c = search needs
 
 returns : tie.Need-returns
 returns c =
-    let p = c .before .before .before .before .before .before .before .before .before .before .before .before .before .before .before .before .before .before .before .before .before .before .before .before .before .before .before .before .before .pre in
-    let there = c .before .before .before .before .before .before .before .before .enter .ensures in
-    let next = started (p .2 .holds) (p .1) (c .before .before .before .before .before .before .before .before .before .before .before .before .before .before .before .before .before .before .before .before .before .before .before .track-at .ensures) (c .before .before .before .before .before .before .before .before .before .before .before .before .before .before .before .before .before .before .before .before .before .before .edge-cause .ensures) (c .before .before .before .before .before .before .before .before .before .before .before .before .before .before .before .before .before .before .before .before .put-base .ensures) (c .before .before .before .before .before .before .before .before .before .before .before .before .before .before .before .before .put-best .ensures) (c .before .before .before .before .before .before .before .before .before .before .before .before .before .first-cell .ensures) (there .holds) in
-    record { tips-room = there .tips-room; queue = there .queue; marks-room = there .marks-room; linked = there .linked; holds = next }
+    let there = c .before .before .before .before .before .before .before .before in
+    let cell = there .before .before .before .before .before in
+    let best = cell .before .before .before in
+    let base = best .before .before .before .before in
+    let edge = base .before .before in
+    let read = edge .before in
+    let p = read .before .before .before .before .before .before .pre in
+    let e = there .enter .ensures in
+    let next = started (p .2 .holds) (p .1) (read .track-at .ensures) (edge .edge-cause .ensures) (base .put-base .ensures) (best .put-best .ensures) (cell .first-cell .ensures) (e .holds) in
+    record { tips-room = e .tips-room; queue = e .queue; marks-room = e .marks-room; linked = e .linked; holds = next }
 
 pub start-tip-spec : {M : Type 1} → statement M
 start-tip-spec =
