@@ -1,77 +1,149 @@
--- The loop over the events. Main theorems: `pop-asked`, `is-due`, `all-ran`.
-use mathlib.Core.List.{List}
+-- The loop over the events. Main theorems: `turned-on` and `turned-over` (one turn), `all-ran` (what is left when there is no event).
+use mathlib.Core.Bool.{Bool, true, false, cond, true≢false}
+use mathlib.Core.List.{List, [], _∷_, _++_}
 use mathlib.Core.Logic.{inl, inr}
-use mathlib.Core.Path.{_≡_, sym, subst}
-use Prim.Native.Nat.{ℕ, _*_, _-_, _≤_, _<_}
-use native.Mathlib.Decide.{ℕ-discrete, decLt}
+use mathlib.Core.Option.{none}
+use mathlib.Core.Path.{_≡_, sym, ap, subst, _∙_}
+use Prim.Native.Nat.{ℕ, _+_, _*_, _≤_, _<_}
 use native.Mathlib.Omega.{arith}
-use lib.ListN.{length, getD}
+use lib.ListN.{length, take, length-append}
+use lib.Seq.{length-take-le}
+use Rattle.sheet.specs.declared.Sheet.{Sheet}
+use Rattle.sheet.specs.HandedIn.{handedIn, noTrack}
 use Rattle.sheet.specs.Listing.{Listing}
-use Rattle.lines.specs.Lines.{Tracked}
-use Rattle.lines.proofs.Places.{tracks-count}
-use Rattle.table.specs.Table.{causeAt}
-use Rattle.turn.proofs.Rolling.{written-end}
-use Rattle.cells.specs.Grid.{side}
-use Rattle.cells.proofs.CellsEntered.{the-count}
-use Rattle.heap.specs.Queue.{Pending, Present, Popped}
-use Rattle.sweep.specs.State.{spotAt, Rows}
-use Rattle.sweep.specs.Run.{State, Going}
-use Rattle.sweep.proofs.Closing.{count-is}
-use Rattle.sweep.proofs.Queue.{none-out}
-use Rattle.events.specs.declared.Happening.{Happening}
-use Rattle.events.specs.Happened.{Readable, Happened}
-use Rattle.deal.specs.Due.{Due}
+use Rattle.rule.specs.Selection.{rollOf}
+use Rattle.row.specs.Written.{Written}
+use Rattle.row.proofs.Roll.{written-none, written-length}
+use Rattle.records.specs.Records.{Handed}
+use Rattle.ending.proofs.Rolling.{written-next, written-end}
+use Rattle.event_queue.specs.Queue.{slot, slots}
+use Rattle.cell_members.specs.Members.{countIn}
+use Rattle.grid_state.specs.Sweep.{Sweep, sweepIn, Swept}
+use Rattle.grid_state.specs.Run.{Starting, Going}
+use Rattle.grid_state.specs.ToDo.{toDo}
+use Rattle.grid_state.proofs.Ways.{starting-going}
+use Rattle.grid_state.proofs.Closing.{closed}
+use Rattle.grid_turn.specs.declared.Outcome.{Outcome}
+use Rattle.grid_turn.specs.declared.Outcome.the-variants.{Rows, Over}
+use Rattle.grid_turn.specs.Turned.{Wrote, no-row, one-row, Turned}
 use Rattle.grid.specs.Ran.{Ran}
 
-module _ {S : Listing} {starts speeds : List ℕ} {n : ℕ} {walls : List ℕ} {m : ℕ} (g : ℕ) {table over marks spots keys heap place lists : List ℕ} {cells rows : ℕ} {before out : List ℕ}
-    (go : Going S starts speeds n walls m g table over marks spots keys heap place lists cells rows before out) where
-  abbrev st : State S (go .done) (go .es) starts speeds n walls m (side g) n table over marks spots keys heap place lists cells (go .pending)
-  st = go .state
+-- `rows` rows are out, in the buffer that held `before`; unless there is more, no tip has a pending event
+pub record Turning (S : Listing) (g : ℕ) (before : List ℕ) (rows : ℕ) (more : Bool) (t q k m out : List ℕ) : Type 0 where
+  pub swept : Swept (Going S g rows) t q k m
+  pub written : Written (take rows (rollOf S)) before out
+  pub over : more ≡ false → (j : ℕ) → slot (slots q) j ≡ none
 
-  few : n ≤ 256
-  few = omega (arith, tracks-count (st .lined), st .looked .tracks-in)
+-- what is still to do: the last turn finds that there is nothing
+abbrev pub left : Listing → ℕ → Bool → Sweep → ℕ
+left S rows more w = toDo (length (S .tracks)) w rows + cond more 1 0
 
-  left : go .pending ≡ n - rows
-  left = omega (arith, go .pending-is)
+-- the slices hold the same, P follows
+swept-on : {P Q : Sweep → Type 0} {t q k m : List ℕ} → ((w : Sweep) → P w → Q w) → Swept P t q k m → Swept Q t q k m
+swept-on {t = t} {q} {k} {m} f s =
+    record { tips-room = s .tips-room; queue = s .queue; marks-room = s .marks-room; linked = s .linked; holds = f (sweepIn t q k m) (s .holds) }
 
-  -- the slices are as long as they were
-  pub lengths : (length table ≡ 3584) × (length over ≡ 256) × (length marks ≡ 65536) × (length spots ≡ 512) × (length keys ≡ 1024) × (length heap ≡ 256) × (length place ≡ 256) × (length lists ≡ 33280) × (length out ≡ length before)
-  lengths = (st .looked .table-long, st .looked .over-long, st .marked .marks-long, st .placed .spots-long, st .queued .pending .table, st .queued .pending .long, st .queued .pending .places .wide, st .listed .linked .long, go .out-long)
+-- ---- all tips have begun
 
-  readable : Readable n table spots place
-  readable = record { table-long = st .looked .table-long; spots-long = st .placed .spots-long; each = λ j p. of j p (decLt j n) (ℕ-discrete (getD over j 0) 0) }
-    where
-      of : (j : ℕ) → Present place j → Dec (j < n) → Dec (getD over j 0 ≡ 0) → (j < n) × (spotAt spots j .column ≤ 100) × (spotAt spots j .row ≤ 100) × (causeAt table j .id ≤ 65535)
-      of j p (no h) x = absurd (p .in-heap (st .queued .idle j (p .tip-in) (inl (omega arith)) .out))
-      of j p (yes h) (no x) = absurd (p .in-heap (st .queued .idle j (p .tip-in) (inr (inl x)) .out))
-      of j p (yes h) (yes x) = let q = st .placed .in-grid j h (none-out few j h) in (h, omega (arith, q .0), omega (arith, q .1), st .looked .best j h x .walls .stands .id-in)
+pub begun-going : {S : Listing} {g : ℕ} {t q k m : List ℕ} → Swept (Starting S g (length (S .tracks))) t q k m → Swept (Going S g 0) t q k m
+begun-going s = swept-on (λ w. starting-going) s
 
-  pub pop-asked : {s : ℕ} → s ≡ side g → rows < n → Tracked starts speeds n × (s ≤ 4096) × Readable n table spots place × Pending keys (n - rows) heap place × (0 < n - rows)
-  pop-asked e h = (st .lined .tracked, omega (arith, e, st .side-in), readable, subst (λ (z : ℕ). Pending keys z heap place) left (st .queued .pending), omega arith)
+pub turning-start : {S : Listing} {g : ℕ} {t q k m : List ℕ} (out : List ℕ) → Swept (Going S g 0) t q k m → Turning S g out 0 true t q k m out
+turning-start out s = record { swept = s; written = written-none out; over = λ e. absurd (true≢false e) }
 
-  pub is-due : {s : ℕ} → s ≡ side g → rows < n → 29 * n ≤ length before → (h : Happening) {heap′ place′ : List ℕ} → Happened starts speeds s table spots keys (n - rows) heap h heap′ place′ →
-      Due S starts speeds n walls m g (h .tip) (h .event) table over marks spots keys heap′ place′ lists cells rows before out
-  is-due {s} e l r h {heap′} {place′} a =
-      let b = subst (λ (z : ℕ). Happened starts speeds z table spots keys (n - rows) heap h heap′ place′) e a in
-      record {
-        popping = record {
-          heap₀ = heap;
-          place₀ = place;
-          going = go;
-          more = l;
-          room = r;
-          popped = subst (λ (z : ℕ). Popped keys z heap (h .tip) heap′ place′) (sym left) (b .popped);
-        };
-        is = b .is;
-      }
+-- ---- one turn
 
-  pub all-ran : (rows < n → ⊥) → Ran S g before out cells
-  all-ran h =
-      let e : rows ≡ n = omega (arith, go .pending-is) in
-      let z : go .pending ≡ 0 = omega (arith, go .pending-is) in
-      record {
-        written = written-end S rows (st .lined .accepted) (go .rows .progress) (go .rows .out) (omega (arith, tracks-count (st .lined))) (go .written);
-        counted = the-count (st .lined .accepted) (go .figure)
-            (count-is g (subst (λ (q : ℕ). State S (go .done) (go .es) starts speeds n walls m (side g) n table over marks spots keys heap place lists cells q) z st)
-            (subst (λ (q : ℕ). Rows S (go .done) q) e (go .rows)));
-      }
+rows-in : {a b : ℕ} → Rows a ≡ Rows b → a ≡ b
+rows-in e = ap number e
+  where
+    number : Outcome → ℕ
+    number (Rows n) = n
+    number Over = 0
+
+rows≢over : (n : ℕ) → Rows n ≡ Over → ⊥
+rows≢over n e = subst IsRows e tt
+  where
+    IsRows : Outcome → Type 0
+    IsRows (Rows k) = Unit {0}
+    IsRows Over = ⊥
+
+module _ {S : Listing} {g : ℕ} {before : List ℕ} {rows : ℕ} {more : Bool} {t q k m out : List ℕ} (room : 29 * length (S .tracks) ≤ length before) (z : Turning S g before rows more t q k m out) where
+  few : rows ≤ length (S .tracks)
+  few = let r = z .swept .holds .rows in omega (arith, r .out, r .progress .count)
+
+  pub turning-long : length out ≡ length before
+  turning-long = written-length (z .written) (omega (arith, few, z .swept .holds .rows .out))
+
+  pub turn-room : 29 * length (S .tracks) ≤ length out
+  turn-room = omega (arith, turning-long)
+
+  -- an event happened
+  module _ {o : Outcome} {r : ℕ} (is : o ≡ Rows r) {t′ q′ k′ m′ : List ℕ} (u : Swept (Turned S g rows (sweepIn t q k m) o) t′ q′ k′ m′) where
+    s : Swept (Turned S g rows (sweepIn t q k m) (Rows r)) t′ q′ k′ m′
+    s = subst (λ (a : Outcome). Swept (Turned S g rows (sweepIn t q k m) a) t′ q′ k′ m′) is u
+
+    row-written : {out′ : List ℕ} → Wrote S rows out (Rows r) out′ → Written (take r (rollOf S)) before out′
+    row-written (no-row (inl e) x) = absurd (rows≢over r e)
+    row-written {out′} (no-row (inr e) x) =
+        subst (λ (n : ℕ). Written (take n (rollOf S)) before out′) (sym (rows-in e)) (subst (Written (take rows (rollOf S)) before) (sym x) (z .written))
+    row-written {out′} (one-row e x) =
+        let i = rows-in e in
+        let go = s .holds .turns .going .rows in
+        let o : length (take (rows + 1) (rollOf S)) ≡ rows + 1 = subst (λ (n : ℕ). length (take n (rollOf S)) ≡ n) i (go .out) in
+        subst (λ (n : ℕ). Written (take n (rollOf S)) before out′) (sym i)
+        (written-next S rows (z .swept .holds .rows .out) o (omega (arith, i, go .out, go .progress .count)) x (z .written))
+
+    pub turned-on : {out′ : List ℕ} → Wrote S rows out o out′ → more ≡ true → Turning S g before r more t′ q′ k′ m′ out′
+    turned-on {out′} x e =
+        record {
+          swept = swept-on (λ v y. y .turns .going) s;
+          written = row-written (subst (λ (a : Outcome). Wrote S rows out a out′) is x);
+          over = λ f. absurd (true≢false (sym e ∙ f));
+        }
+
+    pub less-on : left S r more (sweepIn t′ q′ k′ m′) < left S rows more (sweepIn t q k m)
+    less-on = omega (arith, s .holds .turns .less)
+
+  -- there was none
+  module _ {o : Outcome} (is : o ≡ Over) {t′ q′ k′ m′ : List ℕ} (u : Swept (Turned S g rows (sweepIn t q k m) o) t′ q′ k′ m′) where
+    nothing : Swept (Turned S g rows (sweepIn t q k m) Over) t′ q′ k′ m′
+    nothing = subst (λ (a : Outcome). Swept (Turned S g rows (sweepIn t q k m) a) t′ q′ k′ m′) is u
+
+    same : sweepIn t′ q′ k′ m′ ≡ sweepIn t q k m
+    same = nothing .holds .turns .1
+
+    row-none : {out′ : List ℕ} → Wrote S rows out Over out′ → out′ ≡ out
+    row-none (no-row e x) = x
+    row-none (one-row e x) = absurd (rows≢over (rows + 1) (sym e))
+
+    pub turned-over : {out′ : List ℕ} → Wrote S rows out o out′ → Turning S g before rows false t′ q′ k′ m′ out′
+    turned-over {out′} x =
+        record {
+          swept = swept-on (λ v y. subst (Going S g rows) (sym (y .turns .1)) (z .swept .holds)) nothing;
+          written = subst (Written (take rows (rollOf S)) before) (sym (row-none (subst (λ (a : Outcome). Wrote S rows out a out′) is x))) (z .written);
+          over = λ e j. ap (λ (v : Sweep). slot (v .crowd .pending) j) same ∙ nothing .holds .turns .0 j;
+        }
+
+    pub less-over : more ≡ true → left S rows false (sweepIn t′ q′ k′ m′) < left S rows more (sweepIn t q k m)
+    less-over e =
+        let h = ap (λ (v : Sweep). toDo (length (S .tracks)) v rows) same in let f = ap {B = ℕ} (λ (b : Bool). cond b 1 0) e in omega (arith, h, f)
+
+-- ---- the end
+
+pub all-ran : {S : Listing} {g : ℕ} {before : List ℕ} {rows : ℕ} {more : Bool} {t q k m out : List ℕ} → Turning S g before rows more t q k m out → more ≡ false → {r : ℕ} → r ≡ countIn m → Ran S g before out r
+all-ran {S} {rows = rows} z e f =
+    let s = z .swept .holds in
+    let c = closed s (z .over e) in
+    record { written = written-end S rows (s .state .accepted) (s .rows .progress) (s .rows .out) (c .0) (z .written); counted = f ∙ c .1 }
+
+-- ---- the records that were filed
+
+-- there is room for the rows of as many tracks as were handed in
+pub filed-room : {s : Sheet} → Handed s → {S : Listing} (out : List ℕ) → S ≡ handedIn s → 29 * s .ntracks ≤ length out → 29 * length (S .tracks) ≤ length out
+filed-room {s} h out e room =
+    let many = length-append (s .tracks) (noTrack ∷ []) in
+    let few = length-take-le (s .ntracks) (s .tracks ++ (noTrack ∷ [])) (omega (arith, many, h .tracks-long, h .tracks-in)) in
+    omega (arith, ap (λ (T : Listing). length (T .tracks)) e, few)
+
+pub ran-of : {S T : Listing} {g : ℕ} {before out : List ℕ} {r : ℕ} → S ≡ T → Ran S g before out r → Ran T g before out r
+ran-of {g = g} {before} {out} {r} e x = subst (λ (U : Listing). Ran U g before out r) e x

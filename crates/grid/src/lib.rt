@@ -1,134 +1,63 @@
-// The grid run: events leave a heap by exact time, and a tip looks only at the tips and walls of the cells that it enters
+// The grid run: events leave a queue by exact time, and a tip looks only at the tips and walls of the cells that it enters
 // (SHEETS 6.8; the field's event-driven simulation with geometric hashing).
-ghost use mathlib.Core.Path.{_≡_};
-ghost use Prim.Native.Nat.{ℕ, _*_, _≤_};
+ghost use Prim.Native.Nat.{_*_, _≤_};
 ghost use lib.ListN.{length};
-ghost use Rattle.sheet.specs.Listing.{Listing};
 ghost use Rattle.sheet.specs.HandedIn.{handedIn};
-ghost use Rattle.lines.specs.Lines.{Lined, Handed};
-ghost use Rattle.cells.specs.Grid.{Figure, side};
-ghost use Rattle.sweep.specs.Run.{Going};
+ghost use Rattle.records.specs.Records.{Handed};
+ghost use Rattle.cells.specs.Grid.{Figure};
+ghost use Rattle.records.specs.Records.{Recorded, sheetIn};
+ghost use Rattle.grid_state.specs.Sweep.{Swept};
+ghost use Rattle.grid_state.specs.Run.{Going};
 ghost use Rattle.grid.specs.Ran.{Ran};
+use grid_turn::Outcome;
 use sheet::Sheet;
 
-// All events, until every tip has ended: the number of cells entered.
+// All events, until no tip runs: the number of cells entered.
 fn turns(
-    starts: &[u16],
-    speeds: &[u8],
-    n: usize,
-    walls: &[u16],
-    m: usize,
-    s: u64,
-    table: &mut [u64],
-    over: &mut [u64],
+    records: &[u16],
+    g: u64,
+    tips: &mut [u64],
+    queue: &mut [u64],
     marks: &mut [u8],
-    spots: &mut [u64],
-    keys: &mut [u64],
-    heap: &mut [usize],
-    place: &mut [usize],
-    lists: &mut [u16],
+    members: &mut [u16],
     out: &mut [u8],
 ) -> usize
-    requires { ⌜ ((S : Listing) × ((g : ℕ) × (Going S (now starts) (now speeds) n (now walls) m g (now table) (now over) (now marks) (now spots) (now keys) (now heap) (now place) (now lists) n 0 (now out) (now out) × (s ≡ side g) × (29 * n ≤ length (now out))))) ⌝ }
-    ensures { λ r. ⌜ ((S : Listing) (g : ℕ) → Going S (now (starts .entry)) (now (speeds .entry)) n (now (walls .entry)) m g (now (table .entry)) (now (over .entry)) (now (marks .entry)) (now (spots .entry)) (now (keys .entry)) (now (heap .entry)) (now (place .entry)) (now (lists .entry)) n 0 (now (out .entry)) (now (out .entry)) → s ≡ side g → 29 * n ≤ length (now (out .entry)) → Ran S g (now (out .entry)) (now (out .exit)) r) ⌝ }
+    requires { ⌜ Recorded (now records) × Swept (Going (sheetIn (now records)) g 0) (now tips) (now queue) (now marks) (now members) × (29 * length (sheetIn (now records) .tracks) ≤ length (now out)) ⌝ }
+    ensures { λ r. ⌜ Ran (sheetIn (now (records .entry))) g (now (out .entry)) (now (out .exit)) r ⌝ }
 {
-    let mut cells = n;
     let mut rows: usize = 0;
-    while rows < n {
-        let h = events::next_event(
-            starts,
-            speeds,
-            n,
-            s,
-            table,
-            spots,
-            keys,
-            heap,
-            place,
-            n - rows,
-        );
-        let i = h.tip;
-        let event = h.event;
-        let t = deal::deal(
-            starts,
-            speeds,
-            n,
-            walls,
-            m,
-            s,
-            i,
-            event,
-            table,
-            over,
-            marks,
-            spots,
-            keys,
-            heap,
-            place,
-            lists,
-            cells,
-            rows,
-            out,
-        );
-        cells = t.cells;
-        rows = t.rows;
+    let mut more = true;
+    while more {
+        match grid_turn::turn(records, g, rows, tips, queue, marks, members, out) {
+            Outcome::Rows(k) => {
+                rows = k;
+            }
+            Outcome::Over => {
+                more = false;
+            }
+        }
     }
-    cells
+    cell_members::count(members)
 }
 
-// The roll of the sheet whose records lie in the tables.
-fn run(
-    starts: &[u16],
-    speeds: &[u8],
-    n: usize,
-    walls: &[u16],
-    m: usize,
-    g: u64,
-    out: &mut [u8],
-) -> usize
-    requires { ⌜ ((S : Listing) × (Lined S (now starts) (now speeds) n (now walls) m × Figure g × (29 * n ≤ length (now out)))) ⌝ }
-    ensures { λ r. ⌜ ((S : Listing) → Lined S (now (starts .entry)) (now (speeds .entry)) n (now (walls .entry)) m → Figure g → 29 * n ≤ length (now (out .entry)) → Ran S g (now (out .entry)) (now (out .exit)) r) ⌝ }
+// The roll of the sheet whose records lie in the slice.
+fn run(records: &[u16], g: u64, out: &mut [u8]) -> usize
+    requires { ⌜ Recorded (now records) × Figure g × (29 * length (sheetIn (now records) .tracks) ≤ length (now out)) ⌝ }
+    ensures { λ r. ⌜ Ran (sheetIn (now (records .entry))) g (now (out .entry)) (now (out .exit)) r ⌝ }
 {
-    let s = 4096 / g;
-    let mut table = [0u64; 3584];
-    let mut over = [0u64; 256];
-    let mut marks = [0u8; 65536];
-    let mut spots = [0u64; 512];
-    let mut keys = [0u64; 1024];
-    let mut heap = [0usize; 256];
-    let mut place = [256usize; 256];
-    let mut lists = [0u16; 33280];
-    enter::begin(
-        starts,
-        speeds,
-        n,
-        walls,
-        m,
-        s,
-        &mut table,
-        &over,
-        &mut marks,
-        &mut spots,
-        &mut keys,
-        &mut heap,
-        &mut place,
-        &mut lists,
-    );
+    let mut tips = [0u64; tips::LENGTH];
+    let mut queue = [0u64; event_queue::LENGTH];
+    let mut marks = [0u8; pair_marks::LENGTH];
+    let mut members = [0u16; cell_members::LENGTH];
+    event_queue::clear(&mut queue);
+    grid_enter::begin(records, g, &mut tips, &mut queue, &mut marks, &mut members);
     turns(
-        starts,
-        speeds,
-        n,
-        walls,
-        m,
-        s,
-        &mut table,
-        &mut over,
+        records,
+        g,
+        &mut tips,
+        &mut queue,
         &mut marks,
-        &mut spots,
-        &mut keys,
-        &mut heap,
-        &mut place,
-        &mut lists,
+        &mut members,
         out,
     )
 }
@@ -138,11 +67,7 @@ pub fn roll(sheet: Sheet, g: u64, out: &mut [u8]) -> usize
     requires { ⌜ Handed sheet × Figure g × (29 * sheet .ntracks ≤ length (now out)) ⌝ }
     ensures { λ r. ⌜ Ran (handedIn sheet) g (now (out .entry)) (now (out .exit)) r ⌝ }
 {
-    let n = sheet.ntracks;
-    let m = sheet.nwalls;
-    let mut starts = [0u16; 768];
-    let mut speeds = [0u8; 512];
-    let mut walls = [0u16; 1280];
-    lines::file(sheet, &mut starts, &mut speeds, &mut walls);
-    run(&starts, &speeds, n, &walls, m, g, out)
+    let mut records = [0u16; records::LENGTH];
+    records::file(sheet, &mut records);
+    run(&records, g, out)
 }

@@ -1,147 +1,63 @@
--- `turns` writes the roll and counts the cells. The invariant: the state with as many rows; less is left to do at each turn.
-use Rattle.sheet.specs.Listing.{Listing}
-use Rattle.cells.specs.Grid.{side}
-use Rattle.sweep.specs.Run.{Going}
-use Rattle.sweep.specs.ToDo.{toDo}
-use Rattle.grid.proofs.Turning.{lengths, pop-asked, is-due, all-ran}
+-- `turns` writes the roll and counts the cells. The invariant: the state with as many rows, and no pending event unless there is more.
+use Rattle.records.specs.Records.{sheetIn}
+use Rattle.grid_state.specs.Sweep.{sweepIn}
+use Rattle.grid.proofs.Turning.{Turning, left, turning-start, turning-long, turn-room, turned-on, less-on, turned-over, less-over, all-ran}
 use borrow.Author.Needs.{needs}
-use native.Mathlib.Omega.{arith}
-use Prim.Native.Nat.{ℕ, _≤_, _-_, _*_}
-use mathlib.Core.Path.{_≡_, sym, _∙_}
-use lib.ListN.{length}
 use Rattle.grid.proofs.turns.Statement.{statement}
 use Rattle.grid.proofs.turns.Tie as tie
 
 abbrev Inv-loop : tie.InvT-loop
-Inv-loop starts speeds n walls m s table₀ over₀ marks₀ spots₀ keys₀ heap₀ place₀ lists₀ out₀ cells₀ rows₀ table over marks spots keys heap place lists out cells rows =
-    ((S : Listing) (g : ℕ) → Going S starts speeds n walls m g table₀ over₀ marks₀ spots₀ keys₀ heap₀ place₀ lists₀ n 0 out₀ out₀ → s ≡ side g → 29 * n ≤ length out₀ → Going S starts speeds n walls m g table over marks spots keys heap place lists cells rows out₀ out)
+Inv-loop records g tips₀ queue₀ marks₀ members₀ out₀ rows₀ more₀ tips queue marks members out rows more =
+    Turning (sheetIn records) g out₀ rows more tips queue marks members out
 
 abbrev μ-loop : tie.MeasureT-loop
-μ-loop starts speeds n walls m s table₀ over₀ marks₀ spots₀ keys₀ heap₀ place₀ lists₀ out₀ cells₀ rows₀ table over marks spots keys heap place lists out cells rows = toDo table over n cells rows
+μ-loop records g tips₀ queue₀ marks₀ members₀ out₀ rows₀ more₀ tips queue marks members out rows more =
+    left (sheetIn records) rows more (sweepIn tips queue marks members)
 
 loop-holds : tie.Need-loop-holds Inv-loop μ-loop
-loop-holds c S g go e l = go
+loop-holds c = turning-start (c .before .before .before .before .before .before .args .out .now) (c .before .before .before .before .before .before .pre .1)
 
-sub-next-event : tie.Need-sub-next-event Inv-loop μ-loop
-sub-next-event c = search needs
+turn-requires : tie.Need-turn-requires Inv-loop μ-loop
+turn-requires c κs = (c .before .before .before .before .before .before .before .before .before .before .before .before .before .pre .0, c .before .before .before .before .before .before .loop .inv .swept, turn-room (c .before .before .before .before .before .before .before .before .before .before .before .before .before .pre .2) (c .before .before .before .before .before .before .loop .inv))
 
-next-event-requires : tie.Need-next-event-requires Inv-loop μ-loop
-next-event-requires c κs =
-    let b = c .before .before .before .before .before .before .before .before .before .before .before .before .before .before .before .before .before .before .before in
-    let S = b .pre .0 in
-    let g = b .pre .1 .0 in
-    let e = b .pre .1 .1 .1 in
-    let l = b .pre .1 .1 .2 in
-    pop-asked g (c .before .before .before .before .before .before .loop .inv S g (b .pre .1 .1 .0) e l) e (c .before .before .before .before .before .loop-test .taken)
-
-deal-requires : tie.Need-deal-requires Inv-loop μ-loop
-deal-requires c κs =
-    let b = c .before .before .before .before .before .before .before .before .before .before .before .before .before .before .before .before .before .before .before .before .before .before .before .before .before .before .before .before .before .before .before .before .before in
-    let S = b .pre .0 in
-    let g = b .pre .1 .0 in
-    let e = b .pre .1 .1 .1 in
-    let l = b .pre .1 .1 .2 in
-    (S, (g, (b .args .out .now, (is-due g (c .before .before .before .before .before .before .before .before .before .before .before .before .before .before .before .before .before .before .before .before .loop .inv S g (b .pre .1 .1 .0) e l) e (c .before .before .before .before .before .before .before .before .before .before .before .before .before .before .before .before .before .before .before .loop-test .taken) l (c .before .before .before .before .before .before .before .before .before .before .before .before .before .next-event .result) (c .before .before .before .before .before .before .before .before .before .before .before .before .before .next-event .ensures), e))))
+enum-known-k : tie.Need-enum-known-k Inv-loop μ-loop
+enum-known-k c = search needs
 
 loop-less : tie.Need-loop-less Inv-loop μ-loop
-loop-less c =
-    let b = c .before .before .before .before .before .before .before .before .before .before .before .before .before .before .before .before .before .before .before .before .before .before .before .before .before .before .before .before .before .before .before .before .before .before .before .before .before .before .before .before .before .before .before .before .before .before .before .before .before .before .before .before in
-    let S = b .pre .0 in
-    let g = b .pre .1 .0 in
-    let e = b .pre .1 .1 .1 in
-    let l = b .pre .1 .1 .2 in
-    c .before .before .before .before .before .before .before .before .before .before .before .before .before .before .before .before .before .before .deal .ensures S g (b .args .out .now) (is-due g (c .before .before .before .before .before .before .before .before .before .before .before .before .before .before .before .before .before .before .before .before .before .before .before .before .before .before .before .before .before .before .before .before .before .before .before .before .before .before .before .loop .inv S g (b .pre .1 .1 .0) e l) e (c .before .before .before .before .before .before .before .before .before .before .before .before .before .before .before .before .before .before .before .before .before .before .before .before .before .before .before .before .before .before .before .before .before .before .before .before .before .before .loop-test .taken) l (c .before .before .before .before .before .before .before .before .before .before .before .before .before .before .before .before .before .before .before .before .before .before .before .before .before .before .before .before .before .before .before .before .next-event .result) (c .before .before .before .before .before .before .before .before .before .before .before .before .before .before .before .before .before .before .before .before .before .before .before .before .before .before .before .before .before .before .before .before .next-event .ensures)) e .0 .less
+loop-less c = less-on (c .before .before .before .before .before .before .before .before .before .before .before .before .before .before .before .before .before .before .before .before .before .before .before .before .before .before .before .pre .2) (c .before .before .before .before .before .before .before .before .before .before .before .before .before .before .before .before .before .before .before .before .loop .inv) (c .before .k .given .1) (c .before .before .before .before .before .before .before .before .before .before .before .before .before .turn .ensures .0)
 
 loop-again : tie.Need-loop-again Inv-loop μ-loop
-loop-again c S g go e l =
-    let b = c .before .before .before .before .before .before .before .before .before .before .before .before .before .before .before .before .before .before .before .before .before .before .before .before .before .before .before .before .before .before .before .before .before .before .before .before .before .before .before .before .before .before .before .before .before .before .before .before .before .before .before .before in
-    c .before .before .before .before .before .before .before .before .before .before .before .before .before .before .before .before .before .before .deal .ensures S g (b .args .out .now) (is-due g (c .before .before .before .before .before .before .before .before .before .before .before .before .before .before .before .before .before .before .before .before .before .before .before .before .before .before .before .before .before .before .before .before .before .before .before .before .before .before .before .loop .inv S g go e l) e (c .before .before .before .before .before .before .before .before .before .before .before .before .before .before .before .before .before .before .before .before .before .before .before .before .before .before .before .before .before .before .before .before .before .before .before .before .before .before .loop-test .taken) l (c .before .before .before .before .before .before .before .before .before .before .before .before .before .before .before .before .before .before .before .before .before .before .before .before .before .before .before .before .before .before .before .before .next-event .result) (c .before .before .before .before .before .before .before .before .before .before .before .before .before .before .before .before .before .before .before .before .before .before .before .before .before .before .before .before .before .before .before .before .next-event .ensures)) e .0 .going
+loop-again c = turned-on (c .before .before .before .before .before .before .before .before .before .before .before .before .before .before .before .before .before .before .before .before .before .before .before .before .before .before .before .pre .2) (c .before .before .before .before .before .before .before .before .before .before .before .before .before .before .before .before .before .before .before .before .loop .inv) (c .before .k .given .1) (c .before .before .before .before .before .before .before .before .before .before .before .before .before .turn .ensures .0) (c .before .before .before .before .before .before .before .before .before .before .before .before .before .turn .ensures .1) (c .before .before .before .before .before .before .before .before .before .before .before .before .before .before .before .before .before .before .before .loop-test .taken)
+
+enum-told : tie.Need-enum-told Inv-loop μ-loop
+enum-told c = search needs
+
+loop-less-2 : tie.Need-loop-less-2 Inv-loop μ-loop
+loop-less-2 c = less-over (c .before .before .before .before .before .before .before .before .before .before .before .before .before .before .before .before .before .before .before .before .before .before .before .before .before .before .pre .2) (c .before .before .before .before .before .before .before .before .before .before .before .before .before .before .before .before .before .before .before .loop .inv) (c .enum-told .given .1) (c .before .before .before .before .before .before .before .before .before .before .before .before .turn .ensures .0) (c .before .before .before .before .before .before .before .before .before .before .before .before .before .before .before .before .before .before .loop-test .taken)
+
+loop-again-2 : tie.Need-loop-again-2 Inv-loop μ-loop
+loop-again-2 c = turned-over (c .before .before .before .before .before .before .before .before .before .before .before .before .before .before .before .before .before .before .before .before .before .before .before .before .before .before .pre .2) (c .before .before .before .before .before .before .before .before .before .before .before .before .before .before .before .before .before .before .before .loop .inv) (c .enum-told .given .1) (c .before .before .before .before .before .before .before .before .before .before .before .before .turn .ensures .0) (c .before .before .before .before .before .before .before .before .before .before .before .before .turn .ensures .1)
+
+count-requires : tie.Need-count-requires Inv-loop μ-loop
+count-requires c κs = search needs
 
 same-length : tie.Need-same-length Inv-loop μ-loop
-same-length c =
-    let b = c .before .before .before .before .before .before .before .before .before .before .before .before .before .before in
-    let S = b .pre .0 in
-    let g = b .pre .1 .0 in
-    let e = b .pre .1 .1 .1 in
-    let l = b .pre .1 .1 .2 in
-    lengths g (c .before .loop .inv S g (b .pre .1 .1 .0) e l) .0 ∙ sym (lengths g (b .pre .1 .1 .0) .0)
+same-length c = search needs
 
 same-length-2 : tie.Need-same-length-2 Inv-loop μ-loop
-same-length-2 c =
-    let b = c .before .before .before .before .before .before .before .before .before .before .before .before .before .before in
-    let S = b .pre .0 in
-    let g = b .pre .1 .0 in
-    let e = b .pre .1 .1 .1 in
-    let l = b .pre .1 .1 .2 in
-    lengths g (c .before .loop .inv S g (b .pre .1 .1 .0) e l) .1 ∙ sym (lengths g (b .pre .1 .1 .0) .1)
+same-length-2 c = search needs
 
 same-length-3 : tie.Need-same-length-3 Inv-loop μ-loop
-same-length-3 c =
-    let b = c .before .before .before .before .before .before .before .before .before .before .before .before .before .before in
-    let S = b .pre .0 in
-    let g = b .pre .1 .0 in
-    let e = b .pre .1 .1 .1 in
-    let l = b .pre .1 .1 .2 in
-    lengths g (c .before .loop .inv S g (b .pre .1 .1 .0) e l) .2 ∙ sym (lengths g (b .pre .1 .1 .0) .2)
+same-length-3 c = search needs
 
 same-length-4 : tie.Need-same-length-4 Inv-loop μ-loop
-same-length-4 c =
-    let b = c .before .before .before .before .before .before .before .before .before .before .before .before .before .before in
-    let S = b .pre .0 in
-    let g = b .pre .1 .0 in
-    let e = b .pre .1 .1 .1 in
-    let l = b .pre .1 .1 .2 in
-    lengths g (c .before .loop .inv S g (b .pre .1 .1 .0) e l) .3 ∙ sym (lengths g (b .pre .1 .1 .0) .3)
+same-length-4 c = search needs
 
 same-length-5 : tie.Need-same-length-5 Inv-loop μ-loop
-same-length-5 c =
-    let b = c .before .before .before .before .before .before .before .before .before .before .before .before .before .before in
-    let S = b .pre .0 in
-    let g = b .pre .1 .0 in
-    let e = b .pre .1 .1 .1 in
-    let l = b .pre .1 .1 .2 in
-    lengths g (c .before .loop .inv S g (b .pre .1 .1 .0) e l) .4 ∙ sym (lengths g (b .pre .1 .1 .0) .4)
-
-same-length-6 : tie.Need-same-length-6 Inv-loop μ-loop
-same-length-6 c =
-    let b = c .before .before .before .before .before .before .before .before .before .before .before .before .before .before in
-    let S = b .pre .0 in
-    let g = b .pre .1 .0 in
-    let e = b .pre .1 .1 .1 in
-    let l = b .pre .1 .1 .2 in
-    lengths g (c .before .loop .inv S g (b .pre .1 .1 .0) e l) .5 ∙ sym (lengths g (b .pre .1 .1 .0) .5)
-
-same-length-7 : tie.Need-same-length-7 Inv-loop μ-loop
-same-length-7 c =
-    let b = c .before .before .before .before .before .before .before .before .before .before .before .before .before .before in
-    let S = b .pre .0 in
-    let g = b .pre .1 .0 in
-    let e = b .pre .1 .1 .1 in
-    let l = b .pre .1 .1 .2 in
-    lengths g (c .before .loop .inv S g (b .pre .1 .1 .0) e l) .6 ∙ sym (lengths g (b .pre .1 .1 .0) .6)
-
-same-length-8 : tie.Need-same-length-8 Inv-loop μ-loop
-same-length-8 c =
-    let b = c .before .before .before .before .before .before .before .before .before .before .before .before .before .before in
-    let S = b .pre .0 in
-    let g = b .pre .1 .0 in
-    let e = b .pre .1 .1 .1 in
-    let l = b .pre .1 .1 .2 in
-    lengths g (c .before .loop .inv S g (b .pre .1 .1 .0) e l) .7 ∙ sym (lengths g (b .pre .1 .1 .0) .7)
-
-same-length-9 : tie.Need-same-length-9 Inv-loop μ-loop
-same-length-9 c =
-    let b = c .before .before .before .before .before .before .before .before .before .before .before .before .before .before in
-    let S = b .pre .0 in
-    let g = b .pre .1 .0 in
-    let e = b .pre .1 .1 .1 in
-    let l = b .pre .1 .1 .2 in
-    lengths g (c .before .loop .inv S g (b .pre .1 .1 .0) e l) .8
+same-length-5 c = turning-long (c .before .before .before .before .before .before .before .before .before .before .pre .2) (c .before .before .before .loop .inv)
 
 returns : tie.Need-returns Inv-loop μ-loop
-returns c S g go e l =
-    let x = c .loop-test .left in
-    all-ran g (c .before .loop .inv S g go e l) (λ h. omega arith)
+returns c = all-ran (c .before .before .before .loop .inv) (c .before .before .loop-test .left) (c .count .ensures)
 
 pub turns-spec : {M : Type 1} → statement M
 turns-spec =
@@ -150,18 +66,17 @@ turns-spec =
     Inv-loop
     μ-loop
     loop-holds
-    sub-next-event
-    next-event-requires
-    deal-requires
+    turn-requires
+    enum-known-k
     loop-less
     loop-again
+    enum-told
+    loop-less-2
+    loop-again-2
+    count-requires
     same-length
     same-length-2
     same-length-3
     same-length-4
     same-length-5
-    same-length-6
-    same-length-7
-    same-length-8
-    same-length-9
     returns)
