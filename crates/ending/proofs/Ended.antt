@@ -1,0 +1,51 @@
+-- The row of the tip that ends is the next of the roll. Main theorems: `rows-next`, `row-next`, `out-next`, `progress-next`; and `apart`.
+use mathlib.Core.List.{List, [], _∷_, _++_, append-assoc}
+use mathlib.Core.Logic.{_≢_}
+use mathlib.Core.Path.{_≡_, refl, sym, ap, _∙_, subst}
+use Prim.Native.Nat.{ℕ, zero, suc, _+_, _<_}
+use native.Mathlib.Omega.{arith}
+use lib.ListN.{length, getD, take, length-append}
+use lib.Seq.{take-at, getD-at}
+use Rattle.sheet.specs.Accepted.{Accepted}
+use Rattle.sheet.specs.Listing.{Listing}
+use Rattle.sheet.specs.HandedIn.{noTrack}
+use Rattle.sheet.specs.declared.Track.{Track}
+use Rattle.sheet.proofs.Lists.{mem-at}
+use Rattle.rule.specs.declared.Row.{Row}
+use Rattle.rule.specs.Selection.{rollOf}
+use Rattle.rule.proofs.Starts.{Ids}
+use Rattle.rule.proofs.Turn.{Progress, progress-begins}
+use Rattle.ending.specs.Ended.{nextRow}
+
+-- tracks at two places have different ids
+pub apart : (l : List Track) → Ids l → (i k : ℕ) → i < length l → k < length l → i ≢ k → getD l i noTrack .id ≢ getD l k noTrack .id
+apart [] p i k h g n = absurd (omega arith)
+apart (x ∷ l) p zero zero h g n = absurd (n refl)
+apart (x ∷ l) p zero (suc k) h g n = p .0 (getD l k noTrack) (mem-at noTrack l k (omega arith))
+apart (x ∷ l) p (suc i) zero h g n = λ e. p .0 (getD l i noTrack) (mem-at noTrack l i (omega arith)) (sym e)
+apart (x ∷ l) p (suc i) (suc k) h g n = apart l (p .1) i k (omega arith) (omega arith) (λ e. n (ap suc e))
+
+-- rows that begin the roll
+begins : (l rows more : List Row) (r d : Row) (k : ℕ) → length rows ≡ k → l ≡ (rows ++ (r ∷ [])) ++ more → (take (k + 1) l ≡ rows ++ (r ∷ [])) × (getD l k d ≡ r)
+begins l rows more r d k h e = (
+  ap (take (k + 1)) e ∙ take-at (rows ++ (r ∷ [])) more (k + 1) (simp length-append (omega arith)),
+  ap (λ (z : List Row). getD z k d) (e ∙ append-assoc rows (r ∷ []) more) ∙ getD-at rows r more d k h,
+)
+
+-- ---- its row is the next of the roll
+
+module _ {S : Listing} (acc : Accepted S) {k : ℕ} {row : Row} {done : List Row} (out : length (take k (rollOf S)) ≡ k) (p : Progress S (take k (rollOf S) ++ (row ∷ [])) (row ∷ done)) where
+  after : (take (k + 1) (rollOf S) ≡ take k (rollOf S) ++ (row ∷ [])) × (nextRow S k ≡ row)
+  after = let (more, e) = progress-begins acc p in begins (rollOf S) (take k (rollOf S)) more row _ k out e
+
+  pub rows-next : take (k + 1) (rollOf S) ≡ take k (rollOf S) ++ (row ∷ [])
+  rows-next = after .0
+
+  pub row-next : nextRow S k ≡ row
+  row-next = after .1
+
+  pub out-next : length (take (k + 1) (rollOf S)) ≡ k + 1
+  out-next = ap length rows-next ∙ length-append (take k (rollOf S)) (row ∷ []) ∙ omega (arith, out)
+
+  pub progress-next : Progress S (take (k + 1) (rollOf S)) (row ∷ done)
+  progress-next = subst (λ (z : List Row). Progress S z (row ∷ done)) (sym rows-next) p

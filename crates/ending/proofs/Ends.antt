@@ -1,0 +1,93 @@
+-- What the tips say when the tip at i ends. Main theorem: `ends-next`.
+use mathlib.Core.List.{List, _∷_, List·Memᴰ·head, List·Memᴰ·tail, List·Memᴰ·cases-cons}
+use mathlib.Core.Logic.{_⊎_, inl, inr, _≢_}
+use mathlib.Core.Path.{_≡_, refl, sym, ap, _∙_, subst}
+use Prim.Native.Nat.{ℕ, _<_}
+use native.Mathlib.Decide.{ℕ-discrete}
+use native.Mathlib.Omega.{arith}
+use lib.ListN.{length}
+use Rattle.exact.specs.Time.{Time, _≈ᵗ_}
+use Rattle.exact.proofs.TimeOrder.{≈ᵗ-sym}
+use Rattle.exact.proofs.LowestTerms.{lowestOf-reduced, reduced-time}
+use Rattle.sheet.specs.Accepted.{Accepted}
+use Rattle.sheet.specs.Listing.{Listing, _∈_}
+use Rattle.rule.specs.declared.Row.{Row}
+use Rattle.rule.specs.Causes.{Cand, rowOf, upTo}
+use Rattle.rule.specs.Rows.{time}
+use Rattle.rule.proofs.Running.{Fresh}
+use Rattle.rule.proofs.Selection.{up-one}
+use Rattle.rule.proofs.Tests.{eqb-self}
+use Rattle.causes.specs.Cause.{tipAt, candOf}
+use Rattle.causes.specs.Looked.{Gone}
+use Rattle.tips.specs.Tips.{Tip, tipIn, withEnd}
+use Rattle.look.specs.Ends.{endOf, Ends}
+use Rattle.tips.proofs.Put.{at-put}
+use Rattle.ending.proofs.Ended.{apart}
+
+-- a tip without a row runs
+pub runs-on : {S : Listing} {ts : List Tip} {done : List Row} → Ends S ts done → (j : ℕ) → j < length (S .tracks) → Fresh done (tipAt S j) → tipIn ts j .ended ≡ 0
+runs-on {S} {ts} {done} e j h f = go (ℕ-discrete (tipIn ts j .ended) 0)
+  where
+    go : Dec (tipIn ts j .ended ≡ 0) → tipIn ts j .ended ≡ 0
+    go (yes x) = x
+    go (no x) = let g = e .ended j h x in absurd (f (g .row) (g .written) (g .named))
+
+abbrev pub over : Tip → Tip
+over t = record { best = t .best; base = t .base; ended = 1; cell = t .cell }
+
+-- ---- the tip at i ends by its cause
+
+module _ {S : Listing} (acc : Accepted S) {ts : List Tip} {done : List Row} (e : Ends S ts done) {i : ℕ} (place : i < length (S .tracks)) (room : i < length ts) where
+  abbrev cand : Cand
+  cand = candOf S (tipIn ts i .best)
+
+  abbrev row : Row
+  row = rowOf (tipAt S i) cand
+
+  id-apart : (j : ℕ) → j < length (S .tracks) → j ≢ i → row .id ≢ tipAt S j .id
+  id-apart j h n = apart (S .tracks) (acc .track-ids) i j place h (λ x. n (sym x))
+
+  fresh-next : (j : ℕ) → j < length (S .tracks) → j ≢ i → Fresh done (tipAt S j) → Fresh (row ∷ done) (tipAt S j)
+  fresh-next j h n g d m x = go (List·Memᴰ·cases-cons m)
+    where
+      go : (d ≡ row) ⊎ (d ∈ done) → ⊥
+      go (inl y) = id-apart j h n (ap (λ (z : Row). z .id) (sym y) ∙ x)
+      go (inr y) = g d y x
+
+  gone-next : (j : ℕ) → j < length (S .tracks) → j ≢ i → Gone done (tipAt S j) (endOf (tipIn ts j)) → Gone (row ∷ done) (tipAt S j) (endOf (tipIn ts j))
+  gone-next j h n g =
+      record {
+        row = g .row;
+        written = List·Memᴰ·tail (g .written);
+        named = g .named;
+        stops = λ u. go u (up-one u row done (tipAt S j .id));
+      }
+    where
+      go : (u : Time) → ((row .id ≡ tipAt S j .id) × (upTo (row ∷ done) u (tipAt S j .id) ≡ time row)) ⊎ (upTo (row ∷ done) u (tipAt S j .id) ≡ upTo done u (tipAt S j .id)) → upTo (row ∷ done) u (tipAt S j .id) ≈ᵗ endOf (tipIn ts j)
+      go u (inl x) = absurd (id-apart j h n (x .0))
+      go u (inr x) = subst (λ (z : Time). z ≈ᵗ endOf (tipIn ts j)) (sym x) (g .stops u)
+
+  -- it ended at the time of its cause
+  up-here : (u : Time) → upTo (row ∷ done) u (tipAt S i .id) ≡ time row
+  unfolding upTo
+  up-here u = rw (eqb-self (tipAt S i .id), upTo) refl
+
+  gone-here : Gone (row ∷ done) (tipAt S i) (endOf (tipIn ts i))
+  gone-here =
+      record {
+        row = row;
+        written = List·Memᴰ·head refl;
+        named = refl;
+        stops = λ u. subst (λ (z : Time). z ≈ᵗ endOf (tipIn ts i)) (sym (up-here u)) (≈ᵗ-sym (reduced-time (cand .u) (lowestOf-reduced (cand .u .num) (cand .u .den) (cand .u .den-pos))));
+      }
+
+  pub ends-next : Ends S (withEnd ts i) (row ∷ done)
+  ends-next =
+      record {
+        running =
+            at-put (λ (j : ℕ) (t : Tip). j < length (S .tracks) → t .ended ≡ 0 → Fresh (row ∷ done) (tipAt S j)) ts i (over (tipIn ts i)) room (λ h x. absurd (omega (arith, x)))
+            (λ j n h x. fresh-next j h n (e .running j h x));
+        ended =
+            at-put (λ (j : ℕ) (t : Tip). j < length (S .tracks) → (t .ended ≡ 0 → ⊥) → Gone (row ∷ done) (tipAt S j) (endOf t)) ts i (over (tipIn ts i)) room (λ h x. gone-here)
+            (λ j n h x. gone-next j h n (e .ended j h x));
+      }

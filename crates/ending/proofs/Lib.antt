@@ -1,0 +1,5 @@
+pub mod Endings
+pub mod Ended
+pub mod Ends
+pub mod Rolling
+pub mod Finishing

@@ -1,0 +1,25 @@
+-- A tip ends: what the code asks and does, over the sheet, the tips and the rows.
+use mathlib.Core.Path.{_≡_}
+use mathlib.Core.List.{List}
+use Prim.Native.Nat.{ℕ, _*_, _<_}
+use lib.ListN.{length}
+use lib.Seq.{sets}
+use Rattle.sheet.specs.Listing.{Listing}
+use Rattle.rule.specs.declared.Ending.{Ending}
+use Rattle.rule.specs.RowBytes.{rowBytes}
+use Rattle.row.specs.RowAt.{rowAt}
+use Rattle.causes.specs.Cause.{tipAt}
+use Rattle.tips.specs.Tips.{Tip, tipIn, withEnd}
+use Rattle.look.specs.Ends.{endOf}
+use Rattle.ending.specs.Ended.{Endable}
+
+-- the tip at i is on the sheet when it ends, and there is a row to come after k
+pub record MayEnd (S : Listing) (i k : ℕ) (ts : List Tip) : Type 0 where
+  pub tip-in : i < length (S .tracks)
+  pub endable : Endable (tipAt S i) (tipIn ts i .best)
+  pub more : k < length (S .tracks)
+
+-- its end is noted, and its row is at place k
+pub record Finished (S : Listing) (i k : ℕ) (e : Ending) (ts : List Tip) (out : List ℕ) (ts′ : List Tip) (out′ : List ℕ) : Type 0 where
+  pub noted : ts′ ≡ withEnd ts i
+  pub written : out′ ≡ sets out (29 * k) (rowBytes (rowAt (tipAt S i) (endOf (tipIn ts i)) e))
