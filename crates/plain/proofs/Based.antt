@@ -1,14 +1,13 @@
 -- The first of the edge and the walls, and then of the tracks. Main theorems: `base-found`, `seen-of`.
 use mathlib.Core.List.{List}
 use mathlib.Core.Logic.{inl}
-use mathlib.Core.Path.{sym, subst}
 use Prim.Native.Nat.{ℕ, _<_}
 use native.Mathlib.Omega.{arith}
 use lib.ListN.{length}
 use Rattle.exact.specs.Time.{fraction}
 use Rattle.sheet.specs.declared.Track.{Track}
 use Rattle.sheet.specs.declared.Wall.{Wall}
-use Rattle.sheet.specs.Accepted.{WallOk}
+use Rattle.sheet.specs.Accepted.{Accepted, WallOk}
 use Rattle.sheet.specs.HandedIn.{noWall}
 use Rattle.sheet.specs.Listing.{Listing}
 use Rattle.sheet.proofs.Lists.{mem-at}
@@ -18,15 +17,12 @@ use Rattle.rule.specs.EdgeTime.{rim}
 use Rattle.rule.proofs.Existence.{cand-trans}
 use Rattle.rule.proofs.Turn.{Live}
 use Rattle.causes.specs.declared.Cause.{Cause}
-use Rattle.causes.specs.Cause.{tipAt, wallAt, candOf, Fine, Stands}
-use Rattle.causes.specs.Looked.{Near, WallsLooked, FirstOfTracks, Named}
+use Rattle.causes.specs.Cause.{tipAt, wallAt, candOf, Stands}
+use Rattle.causes.specs.Looked.{Near, FirstOfWalls, FirstOfTracks}
 use Rattle.causes.specs.Offer.{AtEdge}
-use Rattle.causes.proofs.Answers.{small-zero}
 use Rattle.causes.proofs.Looking.{edge-first, walls-live}
-use Rattle.plain.specs.State.{Foremost, Based, BaseFound, Seen}
-
-pub edge-fine : {a : Track} {c : Cause} → AtEdge a c → Fine c
-edge-fine e = subst Fine (sym (e .is)) (record { at = e .small; there = small-zero })
+use Rattle.look.specs.Tracks.{Flagged}
+use Rattle.plain.specs.State.{Foremost, Based, Seen}
 
 -- ---- the walls
 
@@ -43,27 +39,22 @@ foremost-better {S} {a} {c} {r} t h f =
       at-walls = λ j l u e. cand-trans (candOf S r) (candOf S c) (record { u = u; why = by-side (wallAt S j) }) h (f .at-walls j l u e);
     }
 
-pub base-found : {walls : List ℕ} {m : ℕ} {a : Track} {c r : Cause} → AtEdge a c → WallsLooked walls m a (record { left = 0; right = 4096; low = 0; high = 4096 }) c r → BaseFound walls m a r
-base-found {walls} {m} {a} {c} {r} e w =
+pub base-found : {S : Listing} → Accepted S → {a : Track} {c r : Cause} → AtEdge a c → FirstOfWalls S a (record { left = 0; right = 4096; low = 0; high = 4096 }) c r → Based S a r
+base-found {S} acc {a} {c} {r} e f =
+    let o = edge-first S a e in
     record {
-      fine = w .fine;
-      based = λ S acc h x.
-          let o = edge-first S a e in
-          let f = w .looked S acc h x (o .stands) in
-          record {
-            foremost = record {
-              stands = f .stands;
-              at-rim = cand-trans (candOf S r) (candOf S c) (record { u = rim a; why = by-rim }) (f .first) (o .at-rim);
-              at-walls = λ j k. f .at-walls j k (near-all (acc .walls-ok (wallAt S j) (mem-at noWall (S .walls) j k)));
-            };
-            no-track = f .no-track (o .no-track);
-          };
+      foremost = record {
+        stands = f .stands;
+        at-rim = cand-trans (candOf S r) (candOf S c) (record { u = rim a; why = by-rim }) (f .first) (o .at-rim);
+        at-walls = λ j k. f .at-walls j k (near-all (acc .walls-ok (wallAt S j) (mem-at noWall (S .walls) j k)));
+      };
+      no-track = f .no-track (o .no-track);
     }
 
 -- ---- the tracks
 
-module _ (S : Listing) {done : List Row} (i : ℕ) (known : List ℕ) {c r : Cause} (b : Based S (tipAt S i) c) (f : FirstOfTracks S done (tipAt S i) (Named known 0) c r) where
-  pub seen-of : ((j : ℕ) → j < length (S .tracks) → Named known 0 j) → Seen S done i r
+module _ (S : Listing) {done : List Row} (i : ℕ) (known : List ℕ) {c r : Cause} (b : Based S (tipAt S i) c) (f : FirstOfTracks S done (tipAt S i) (Flagged known) c r) where
+  pub seen-of : ((j : ℕ) → j < length (S .tracks) → Flagged known j) → Seen S done i r
   seen-of all = record { foremost = foremost-better (f .stands) (f .first) (b .foremost); at-tips = λ j h. f .at-tips j h (all j h) }
 
   pub live-of : Live done (candOf S r .u) (candOf S r .why)

@@ -2,155 +2,130 @@
 use mathlib.Core.Bool.{Bool, true, false}
 use mathlib.Core.List.{List}
 use mathlib.Core.Logic.{_≢_}
-use mathlib.Core.Path.{_≡_, refl, sym, _∙_, subst}
-use Prim.Native.Nat.{ℕ, _+_, _*_, _≤_, _<_}
+use mathlib.Core.Path.{_≡_, sym, _∙_, subst}
+use Prim.Native.Nat.{ℕ, _+_, _<_}
 use native.Mathlib.Omega.{arith}
-use lib.ListN.{length, getD}
-use lib.Seq.{sets, length-sets}
+use lib.ListN.{length, length-set}
 use borrow.Author.Count.{below-more}
-use Rattle.exact.specs.Time.{fraction}
+use Rattle.sheet.specs.Accepted.{Accepted}
+use Rattle.sheet.specs.HandedIn.{noTrack}
 use Rattle.sheet.specs.Listing.{Listing}
+use Rattle.sheet.proofs.Lists.{mem-at}
 use Rattle.rule.specs.declared.Row.{Row}
+use Rattle.rule.proofs.Running.{Fresh}
 use Rattle.rule.proofs.Turn.{Live}
 use Rattle.causes.specs.declared.Cause.{Cause}
-use Rattle.causes.specs.Cause.{tipAt, candOf, Fine, Stands}
-use Rattle.causes.specs.Looked.{Gone, Ends, Named, Tables, FirstOfTracks, TracksLooked}
-use Rattle.table.specs.Table.{numbersOf, causeAt, baseAt}
-use Rattle.table.proofs.Stored.{stored-other}
-use Rattle.turn.specs.Counts.{Sized, Stale}
-use Rattle.turn.specs.Listed.{listed}
-use Rattle.turn.specs.LookedAgain.{LookedAgain}
-use Rattle.turn.proofs.Counting.{counts-live}
-use Rattle.lines.proofs.Places.{tracks-count, track-in}
-use Rattle.turn.proofs.Store.{at-store}
-use Rattle.plain.specs.Key.{Keyed}
-use Rattle.plain.specs.State.{Laid, Based, Held, Seen, Kept, LiveBelow, Refreshed}
+use Rattle.causes.specs.Cause.{tipAt, candOf, Stands}
+use Rattle.causes.specs.Looked.{Gone, FirstOfTracks}
+use Rattle.tips.specs.Tips.{Tip, tipIn, withBest}
+use Rattle.tips.proofs.Put.{at-put}
+use Rattle.look.specs.Ends.{endOf, Ends}
+use Rattle.look.specs.Counts.{MayTell, stale, Stale}
+use Rattle.look.specs.Tracks.{Flagged, MayLookOn, TracksLooked, LookedAgain}
+use Rattle.look.proofs.Counting.{stale-means, counts-live}
+use Rattle.plain.specs.Key.{MayPick}
+use Rattle.plain.specs.State.{AllKnown, Based, Held, Seen, Kept, LiveBelow, Refreshed}
 use Rattle.plain.proofs.Based.{seen-of, live-of}
 
--- ---- what the table gives to those who read it
+-- ---- what the tips give to those who read them
 
-module _ {starts speeds walls known table over : List ℕ} {n m : ℕ} (g : Laid starts speeds n walls m known) (h : Held (listed starts speeds n walls m) table over) where
-  in-list : (k : ℕ) → k < n → k < length (listed starts speeds n walls m .tracks)
-  in-list k l = omega (arith, tracks-count (g .lined))
+module _ {S : Listing} {ts : List Tip} (h : Held S ts) where
+  pub held-pick : 0 < length (S .tracks) → MayPick S ts
+  held-pick l = record { some = l; times = λ k m. h .stands k m .fine .at }
 
-  pub held-keyed : Keyed starts n table over
-  held-keyed =
-      record {
-        few = g .lined .tracked .few;
-        starts-long = g .lined .tracked .starts-long;
-        table-long = h .table-long;
-        over-long = h .over-long;
-        times = λ k l. h .stands k (in-list k l) .fine .at;
-      }
+  module _ (i : ℕ) (l : i < length (S .tracks)) where
+    pub held-look : MayLookOn S ts i (tipIn ts i .base)
+    held-look = record { tip-in = l; stands = h .based i l .foremost .stands; times = λ k m x. h .stands k m .fine .at }
 
-  pub held-tables : Tables n table over
-  held-tables = record { table-long = h .table-long; over-long = h .over-long; times = λ k l x. h .stands k (in-list k l) .fine .at }
-
-  pub held-fine : (i : ℕ) → i < n → Fine (baseAt table i)
-  held-fine i l = h .based i (in-list i l) .foremost .stands .fine
-
-  pub held-sized : (i : ℕ) → i < n → Sized n i table over
-  held-sized i l =
-      record {
-        place = l;
-        few = g .lined .tracked .few;
-        table-long = h .table-long;
-        over-long = h .over-long;
-        fine = h .stands i (in-list i l) .fine;
-        known = λ e. let k = h .stands i (in-list i l) .known e in omega (arith, tracks-count (g .lined));
-        times = λ k m. h .stands k (in-list k m) .fine .at;
-      }
+    pub held-tell : Accepted S → MayTell ts i
+    held-tell acc =
+        record {
+          tip-in = omega (arith, acc .few-tracks);
+          fine = h .stands i l .fine;
+          known = λ e. let k = h .stands i l .known e in omega (arith, acc .few-tracks);
+          times = λ e x. h .stands (tipIn ts i .best .who) (h .stands i l .known e) .fine;
+        }
 
 -- ---- one tip more
 
-pub refresh-start : {S : Listing} {table over : List ℕ} → Held S table over → Refreshed S over table table 0
+pub refresh-start : {S : Listing} {ts : List Tip} → Held S ts → Refreshed S ts ts 0
 refresh-start h = record { held = h; kept = λ done k. k; live = λ done k j l. absurd (omega arith) }
 
-module _ {starts speeds walls known over old table : List ℕ} {n m i : ℕ} (g : Laid starts speeds n walls m known) (f : Refreshed (listed starts speeds n walls m) over old table i) (l : i < n) where
-  abbrev S : Listing
-  S = listed starts speeds n walls m
+module _ {S : Listing} (acc : Accepted S) {known : List ℕ} (all : AllKnown known) {old ts : List Tip} {i : ℕ} (f : Refreshed S old ts i) (l : i < length (S .tracks)) where
+  LiveAt : List Tip → List Row → ℕ → Type 0
+  LiveAt t done k = tipIn t k .ended ≡ 0 → Live done (candOf S (tipIn t k .best) .u) (candOf S (tipIn t k .best) .why)
 
-  many : length (S .tracks) ≡ n
-  many = tracks-count (g .lined)
+  told : {r : Bool} → r ≡ stale ts i → Stale ts i r
+  told e = subst (Stale ts i) (sym e) (stale-means (held-tell (f .held) i l acc))
 
-  few : n ≤ 256
-  few = g .lined .tracked .few
-
-  place : i < length (S .tracks)
-  place = omega (arith, many)
-
-  LiveAt : List ℕ → List Row → ℕ → Type 0
-  LiveAt t done k = getD over k 0 ≡ 0 → Live done (candOf S (causeAt t k) .u) (candOf S (causeAt t k) .why)
-
-  pub refresh-none : {r : Bool} → Stale i table over r → r ≡ false → Refreshed S over old table (i + 1)
+  pub refresh-none : {r : Bool} → r ≡ stale ts i → r ≡ false → Refreshed S old ts (i + 1)
   unfolding LiveAt
   refresh-none x e =
       record {
         held = f .held;
         kept = f .kept;
-        live = λ done k. below-more (LiveAt table done) i (f .live done k)
-            (λ z. counts-live S (g .lined .accepted) table over done (f .kept done k .ends) (tipAt S i) (track-in (g .lined) i l) (f .held .stands i place) (x .no-counts e z));
+        live = λ done k. below-more (LiveAt ts done) i (f .live done k)
+            (λ z. counts-live S acc ts done (f .kept done k .ends) (tipAt S i) (mem-at noTrack (S .tracks) i l) (f .held .stands i l) (told x .no-counts e z));
       }
 
-  module _ (x : getD over i 0 ≡ 0) (c : Cause) (o : TracksLooked starts speeds n i table over known 0 (baseAt table i) c) where
-    abbrev new : List ℕ
-    new = sets table (7 * i) (numbersOf c)
+  module _ (x : tipIn ts i .ended ≡ 0) (c : Cause) (o : TracksLooked S i ts known (tipIn ts i .base) c) where
+    abbrev new : Tip
+    new = record { best = c; base = tipIn ts i .base; ended = tipIn ts i .ended; cell = tipIn ts i .cell }
 
-    room : 7 * i + 7 ≤ length table
-    room = omega (arith, f .held .table-long, few)
+    abbrev next : List Tip
+    next = withBest ts i c
 
-    base : Based S (tipAt S i) (baseAt table i)
-    base = f .held .based i place
+    room : i < length ts
+    room = omega (arith, f .held .long, acc .few-tracks)
 
-    base-on : (k : ℕ) → baseAt new k ≡ baseAt table k
-    base-on k = stored-other table i c (256 + k) (λ y. absurd (omega (arith, few)))
+    base : Based S (tipAt S i) (tipIn ts i .base)
+    base = f .held .based i l
 
-    module _ (done : List Row) (e : Ends S table over done) where
-      first : FirstOfTracks S done (tipAt S i) (Named known 0) (baseAt table i) c
-      first = o .looked S (g .lined .accepted) refl (base .foremost .stands) done e
+    flagged : (j : ℕ) → j < length (S .tracks) → Flagged known j
+    flagged j h = all .all j (omega (arith, acc .few-tracks))
 
-      ends-new : Ends S new over done
-      ends-new =
-          record {
-            running = e .running;
-            ended = at-store (λ (j : ℕ) (d : Cause). j < length (S .tracks) → (getD over j 0 ≡ 0 → ⊥) → Gone done (tipAt S j) (fraction (d .u) (d .ud))) table i c room
-                (λ m n. absurd (n x)) (λ j n. e .ended j);
-          }
+    ends-new : (done : List Row) → Ends S ts done → Ends S next done
+    ends-new done e =
+        record {
+          running = at-put (λ (j : ℕ) (t : Tip). j < length (S .tracks) → t .ended ≡ 0 → Fresh done (tipAt S j)) ts i new room (e .running i) (λ j n. e .running j);
+          ended = at-put (λ (j : ℕ) (t : Tip). j < length (S .tracks) → (t .ended ≡ 0 → ⊥) → Gone done (tipAt S j) (endOf t)) ts i new room (λ m n. absurd (n x)) (λ j n. e .ended j);
+        }
 
-    held-new : Held S new over
+    held-new : Held S next
     held-new =
         let h = f .held in
         record {
-          table-long = length-sets table (7 * i) (numbersOf c) ∙ h .table-long;
-          over-long = h .over-long;
-          stands = at-store (λ (k : ℕ) (d : Cause). k < length (S .tracks) → Stands S (tipAt S k) d) table i c room (λ m. first (h .some) (h .ends) .stands) (λ k n. h .stands k);
-          based = λ k m. subst (Based S (tipAt S k)) (sym (base-on k)) (h .based k m);
+          long = length-set ts i new ∙ h .long;
+          stands = at-put (λ (k : ℕ) (t : Tip). k < length (S .tracks) → Stands S (tipAt S k) (t .best)) ts i new room (λ m. o .looked (h .some) (h .ends) .stands) (λ k n. h .stands k);
+          based = at-put (λ (k : ℕ) (t : Tip). k < length (S .tracks) → Based S (tipAt S k) (t .base)) ts i new room (h .based i) (λ k n. h .based k);
           some = h .some;
           ends = ends-new (h .some) (h .ends);
         }
 
-    module _ (done : List Row) (k : Kept S old over done) where
-      abbrev now : Kept S table over done
+    module _ (done : List Row) (k : Kept S old done) where
+      abbrev now : Kept S ts done
       now = f .kept done k
 
-      kept-new : Kept S new over done
+      first : FirstOfTracks S done (tipAt S i) (Flagged known) (tipIn ts i .base) c
+      first = o .looked done (now .ends)
+
+      kept-new : Kept S next done
       kept-new =
           record {
             ends = ends-new done (now .ends);
-            seen = at-store (λ (j : ℕ) (d : Cause). j < length (S .tracks) → getD over j 0 ≡ 0 → Seen S done j d) table i c room
-                (λ m z. seen-of S i known base (first done (now .ends)) (λ j h. g .all j (omega (arith, many)))) (λ j n. now .seen j);
+            seen = at-put (λ (j : ℕ) (t : Tip). j < length (S .tracks) → t .ended ≡ 0 → Seen S done j (t .best)) ts i new room (λ m z. seen-of S i known base first flagged) (λ j n. now .seen j);
           }
 
-      live-new : LiveBelow S new over done (i + 1)
+      live-new : LiveBelow S next done (i + 1)
       live-new =
-          at-store (λ (j : ℕ) (d : Cause). j < i + 1 → getD over j 0 ≡ 0 → Live done (candOf S d .u) (candOf S d .why)) table i c room
-          (λ m z. live-of S i known base (first done (now .ends))) (λ j n m. f .live done k j (less j n m))
+          at-put (λ (j : ℕ) (t : Tip). j < i + 1 → t .ended ≡ 0 → Live done (candOf S (t .best) .u) (candOf S (t .best) .why)) ts i new room
+          (λ m z. live-of S i known base first) (λ j n m. f .live done k j (less j n m))
         where
           less : (j : ℕ) → j ≢ i → j < i + 1 → j < i
           less j n m = omega arith
 
-    refresh-with : Refreshed S over old new (i + 1)
+    refresh-with : Refreshed S old next (i + 1)
     refresh-with = record { held = held-new; kept = kept-new; live = live-new }
 
-  pub refresh-look : {r : Bool} {t : List ℕ} → Stale i table over r → r ≡ true → LookedAgain starts speeds n i over known 0 table t → Refreshed S over old t (i + 1)
-  refresh-look {r} {t} x e a = subst (λ (z : List ℕ). Refreshed S over old z (i + 1)) (sym (a .stored)) (refresh-with (x .yes-runs e) (a .cause) (a .looked))
+  pub refresh-look : {r : Bool} {t : List Tip} → r ≡ stale ts i → r ≡ true → LookedAgain S i known ts t → Refreshed S old t (i + 1)
+  refresh-look {r} {t} x e a = subst (λ (z : List Tip). Refreshed S old z (i + 1)) (sym (a .stored)) (refresh-with (told x .yes-runs e) (a .cause) (a .looked))

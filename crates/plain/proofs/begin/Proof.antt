@@ -1,61 +1,60 @@
--- `begin` fills the table. The invariant: it is filled for the tips so far.
+-- `begin` finds the first causes. The invariant: the tips so far have theirs.
 use mathlib.Core.Path.{_≡_, sym, _∙_, subst}
 use Prim.Native.Nat.{ℕ, _≤_, _-_}
 use native.Mathlib.Omega.{arith}
-use Rattle.turn.specs.Listed.{listed}
+use lib.ListN.{length}
+use Rattle.records.specs.Records.{sheetIn}
+use Rattle.tips.specs.Tips.{Room, tipsIn}
 use Rattle.plain.specs.State.{Begun}
-use Rattle.plain.proofs.Beginning.{begin-ok, begin-fine, begin-tables, begin-next}
+use Rattle.plain.proofs.Beginning.{begin-look, begin-next}
 use borrow.Author.Needs.{needs}
 use Rattle.plain.proofs.begin.Statement.{statement}
 use Rattle.plain.proofs.begin.Tie as tie
 
 abbrev Inv-loop : tie.InvT-loop
-Inv-loop starts speeds n walls m known table₀ over i₀ table i = (i ≤ n) × Begun (listed starts speeds n walls m) table over i
+Inv-loop records known tips₀ n i₀ tips i = (i ≤ n) × Room tips × Begun (sheetIn records) (tipsIn tips) i
 
 abbrev μ-loop : tie.MeasureT-loop
-μ-loop starts speeds n walls m known table₀ over i₀ table i = n - i
+μ-loop records known tips₀ n i₀ tips i = n - i
+
+track-count-requires : tie.Need-track-count-requires Inv-loop μ-loop
+track-count-requires c κs = search needs
 
 loop-holds : tie.Need-loop-holds Inv-loop μ-loop
-loop-holds c = (omega arith, c .before .before .before .before .before .before .pre .1)
-
-track-at-requires : tie.Need-track-at-requires Inv-loop μ-loop
-track-at-requires c κs = let t = c .before .before .before .before .before .before .before .before .pre .0 .lined .tracked in (omega (arith, t .starts-long, t .few, c .loop-test .taken), omega (arith, t .speeds-long, t .few, c .loop-test .taken))
+loop-holds c = let p = c .before .before .before .before .pre in (omega arith, p .2, p .3)
 
 base-cause-requires : tie.Need-base-cause-requires Inv-loop μ-loop
-base-cause-requires c κs = (c .before .before .before .before .before .before .before .before .before .pre .0 .lined .walled, begin-ok (c .before .before .before .before .before .before .before .before .before .pre .0) (c .before .before .loop .inv .1) (c .before .loop-test .taken) (c .track-at .ensures))
+base-cause-requires c κs = (c .before .before .before .before .before .before .pre .0, omega (arith, c .loop-test .taken, c .before .before .track-count .ensures))
 
-add-store : tie.Need-add-store Inv-loop μ-loop
-add-store c = search needs
-
-store-requires : tie.Need-store-requires Inv-loop μ-loop
-store-requires c κs = omega (arith, c .before .before .before .before .loop .inv .1 .table-long, c .before .before .before .before .before .before .before .before .before .before .before .pre .0 .lined .tracked .few, c .before .before .before .loop-test .taken)
+put-base-requires : tie.Need-put-base-requires Inv-loop μ-loop
+put-base-requires c κs = (c .before .before .before .loop .inv .1, omega (arith, c .before .before .loop-test .taken, c .before .before .before .before .track-count .ensures, c .before .before .before .before .before .before .before .before .pre .0 .accepted .few-tracks))
 
 look-again-requires : tie.Need-look-again-requires Inv-loop μ-loop
 look-again-requires c κs =
-    let g = c .before .before .before .before .before .before .before .before .before .before .before .before .before .before .before .pre .0 in
-    let b = c .before .before .before .before .before .before .before .before .loop .inv .1 in
-    let l = c .before .before .before .before .before .before .before .loop-test .taken in
-    (g .lined .tracked, l, begin-fine g b l (c .before .before .before .before .before .before .track-at .ensures) (c .before .before .before .before .before .base-cause .ensures) (c .before .before .before .store .ensures), begin-tables g b l (c .before .before .before .before .before .before .track-at .ensures) (c .before .before .before .before .before .base-cause .ensures) (c .before .before .before .store .ensures), omega (arith, g .known-long, g .lined .tracked .few))
+    let p = c .before .before .before .before .before .before .before .before .before .before .before .before .pre in
+    (p .0, search needs, p .1 .long, begin-look (p .0 .accepted) (p .1) (c .before .before .before .before .before .before .before .loop .inv .2) (omega (arith, c .before .before .before .before .before .before .loop-test .taken, c .before .before .before .before .before .before .before .before .track-count .ensures)) (c .before .before .before .before .before .base-cause .ensures) (c .before .before .before .put-base .ensures))
 
 add-i : tie.Need-add-i Inv-loop μ-loop
-add-i c = omega (arith, c .before .before .before .before .before .before .before .before .before .before .loop-test .taken, c .before .before .before .before .before .before .before .before .before .before .before .before .before .before .before .before .before .before .pre .0 .lined .tracked .few)
+add-i c = omega (arith, c .before .before .before .before .before .before .before .before .before .loop-test .taken, c .before .before .before .before .before .before .before .before .before .before .before .track-count .ensures, c .before .before .before .before .before .before .before .before .before .before .before .before .before .before .before .pre .0 .accepted .few-tracks)
 
 loop-less : tie.Need-loop-less Inv-loop μ-loop
 loop-less c = search needs
 
 loop-again : tie.Need-loop-again Inv-loop μ-loop
 loop-again c =
-    let l = c .before .before .before .before .before .before .before .before .before .before .loop-test .taken in
-    (omega (arith, l), begin-next (c .before .before .before .before .before .before .before .before .before .before .before .before .before .before .before .before .before .before .pre .0) (c .before .before .before .before .before .before .before .before .before .before .before .loop .inv .1) l (c .before .before .before .before .before .before .before .before .before .track-at .ensures) (c .before .before .before .before .before .before .before .before .base-cause .ensures) (c .before .before .before .before .before .before .store .ensures) (c .before .before .look-again .ensures))
+    let p = c .before .before .before .before .before .before .before .before .before .before .before .before .before .before .before .pre in
+    let h = c .before .before .before .before .before .before .before .before .before .loop-test .taken in
+    (omega (arith, h), search needs, begin-next (p .0 .accepted) (p .1) (c .before .before .before .before .before .before .before .before .before .before .loop .inv .2) (omega (arith, h, c .before .before .before .before .before .before .before .before .before .before .before .track-count .ensures)) (c .before .before .before .before .before .before .before .before .base-cause .ensures) (c .before .before .before .before .before .before .put-base .ensures) (c .before .before .look-again .ensures))
 
 same-length : tie.Need-same-length Inv-loop μ-loop
-same-length c = c .before .loop .inv .1 .table-long ∙ sym (c .before .before .before .before .before .before .before .before .pre .1 .table-long)
+same-length c = c .before .loop .inv .1 ∙ sym (c .before .before .before .before .before .before .pre .2)
 
 returns : tie.Need-returns Inv-loop μ-loop
 returns c =
-    let a = c .before .before .before .before .before .before .before .before .args in
-    let e : c .before .loop .i ≡ a .n = omega arith in
-    subst (λ (k : ℕ). Begun (listed (a .starts .now) (a .speeds .now) (a .n) (a .walls .now) (a .m)) (c .before .loop .table) (a .over .now) k) e (c .before .loop .inv .1)
+    let a = c .before .before .before .before .before .before .args in
+    let l = c .before .loop in
+    let e : l .i ≡ length (sheetIn (a .records .now) .tracks) = omega (arith, l .inv .0, c .loop-test .left, c .before .before .track-count .ensures) in
+    subst (Begun (sheetIn (a .records .now)) (tipsIn (l .tips))) e (l .inv .2)
 
 pub begin-spec : {M : Type 1} → statement M
 begin-spec =
@@ -63,11 +62,10 @@ begin-spec =
     (tie.spec
     Inv-loop
     μ-loop
+    track-count-requires
     loop-holds
-    track-at-requires
     base-cause-requires
-    add-store
-    store-requires
+    put-base-requires
     look-again-requires
     add-i
     loop-less

@@ -1,53 +1,43 @@
 -- `take_turn` writes the next row, and leaves the state of one row more.
-use mathlib.Core.Path.{sym, ap, _∙_}
-use Prim.Native.Nat.{_*_}
+use mathlib.Core.Path.{subst}
 use native.Mathlib.Omega.{arith}
-use lib.ListN.{length, length-set}
-use lib.Seq.{sets, length-sets}
-use Rattle.rule.specs.declared.Row.{Row}
-use Rattle.rule.specs.RowBytes.{rowBytes}
-use Rattle.plain.proofs.LookingAgain.{held-keyed}
-use Rattle.plain.proofs.Turning.{turn-endable, turn-row, turn-state}
+use Rattle.causes.specs.declared.Cause.{Cause}
+use Rattle.ending.specs.Ended.{EndingOf}
+use Rattle.plain.proofs.LookingAgain.{held-pick}
+use Rattle.plain.proofs.Turning.{turn-named, turn-end, turn-row, turn-state}
+use borrow.Author.Needs.{needs}
 use Rattle.plain.proofs.take_turn.Statement.{statement}
 use Rattle.plain.proofs.take_turn.Tie as tie
 
 refresh-requires : tie.Need-refresh-requires
-refresh-requires c κs = (c .before .before .before .before .before .before .before .before .before .pre .0, c .before .before .before .before .before .before .before .before .before .pre .2 .held)
+refresh-requires c κs = let p = c .before .before .before .before .before .pre in (p .0, p .1, p .2, p .3 .held)
 
 pick-requires : tie.Need-pick-requires
-pick-requires c κs = (omega (arith, c .before .before .before .before .before .before .before .before .before .before .before .before .before .before .pre .1), held-keyed (c .before .before .before .before .before .before .before .before .before .before .before .before .before .before .pre .0) (c .before .before .before .before .refresh .ensures .held))
+pick-requires c κs = let p = c .before .before .before .before .before .before .before .before .before .pre in (p .0, search needs, held-pick (c .before .before .before .refresh .ensures .held) (omega (arith, p .4)))
 
-track-at-requires : tie.Need-track-at-requires
-track-at-requires c κs = let t = c .before .before .before .before .before .before .before .before .before .before .before .before .before .before .before .pre .0 .lined .tracked in (omega (arith, t .starts-long, t .few, c .pick .ensures .place), omega (arith, t .speeds-long, t .few, c .pick .ensures .place))
+best-of-requires : tie.Need-best-of-requires
+best-of-requires c κs = search needs
 
-row-at-requires : tie.Need-row-at-requires
-row-at-requires c κs = (omega (arith, c .before .before .before .before .before .before .before .refresh .ensures .held .table-long, c .before .before .pick .ensures .place, c .before .before .before .before .before .before .before .before .before .before .before .before .before .before .before .before .before .pre .0 .lined .tracked .few), turn-endable (c .before .before .before .before .before .before .before .before .before .before .before .before .before .before .before .before .before .pre .0 .lined) (c .before .before .before .before .before .before .before .before .before .before .before .before .before .before .before .before .before .pre .2) (c .before .before .before .before .before .before .before .refresh .ensures) (c .before .before .before .before .before .before .before .before .before .before .before .before .before .before .before .before .before .pre .1) (c .before .before .pick .ensures) (c .before .track-at .ensures))
+ending-of-requires : tie.Need-ending-of-requires
+ending-of-requires c κs = let p = c .before .before .before .before .before .before .before .before .before .before .before .before .pre in turn-named (p .0 .accepted) (p .3) (c .before .before .before .before .before .before .refresh .ensures) (p .4) (c .before .before .pick .ensures) (c .best-of .ensures)
 
-mul-put-row : tie.Need-mul-put-row
-mul-put-row c = omega (arith, c .before .before .before .before .before .before .before .before .before .before .before .before .before .before .before .before .before .before .before .pre .1, c .before .before .before .before .before .before .before .before .before .before .before .before .before .before .before .before .before .before .before .pre .0 .lined .tracked .few)
-
-put-row-requires : tie.Need-put-row-requires
-put-row-requires c κs = c .before .before .before .before .before .before .before .before .before .before .before .before .before .before .before .before .before .before .before .pre .3
-
-mul-over : tie.Need-mul-over
-mul-over c = omega (arith, c .before .before .before .before .before .before .before .pick .ensures .place, c .before .before .before .before .before .before .before .before .before .before .before .before .before .before .before .before .before .before .before .before .before .before .pre .0 .lined .tracked .few)
-
-slice-write-over : tie.Need-slice-write-over
-slice-write-over c = omega (arith, c .before .before .before .before .before .before .before .pick .ensures .place, c .before .before .before .before .before .before .before .before .before .before .before .before .before .before .before .before .before .before .before .before .before .before .pre .0 .lined .tracked .few, c .before .before .before .before .before .before .before .before .before .before .before .before .refresh .ensures .held .over-long)
+end-tip-requires : tie.Need-end-tip-requires
+end-tip-requires c κs = let p = c .before .before .before .before .before .before .before .before .before .before .before .before .before .before .before .pre in (p .0, search needs, turn-end (p .0 .accepted) (p .3) (c .before .before .before .before .before .before .before .before .before .refresh .ensures) (p .4) (c .before .before .before .before .before .pick .ensures), p .5)
 
 same-length : tie.Need-same-length
-same-length c = c .before .before .before .before .before .before .before .before .before .before .before .before .refresh .ensures .held .table-long ∙ sym (c .before .before .before .before .before .before .before .before .before .before .before .before .before .before .before .before .before .before .before .before .before .before .pre .2 .held .table-long)
+same-length c = search needs
 
 same-length-2 : tie.Need-same-length-2
-same-length-2 c = length-set (c .before .before .before .before .before .before .before .before .before .before .before .before .before .before .before .before .before .before .before .before .before .before .args .over .now) (c .before .before .before .before .before .before .before .pick .result) 1
-
-same-length-3 : tie.Need-same-length-3
-same-length-3 c = ap length (c .before .before .put-row .ensures) ∙ length-sets (c .before .before .before .before .before .before .before .before .before .before .before .before .before .before .before .before .before .before .before .before .before .before .args .out .now) (29 * c .before .before .before .before .before .before .before .before .before .before .before .before .before .before .before .before .before .before .before .before .before .before .args .k) (rowBytes (c .before .before .before .before .row-at .result))
+same-length-2 c = search needs
 
 returns : tie.Need-returns
 returns c =
-    let a = c .before .before .before .before .before .before .before .before .before .before .before .before .before .before .before .before .before .before .before .before .before .before .args in
-    (turn-state (c .before .before .before .before .before .before .before .before .before .before .before .before .before .before .before .before .before .before .before .before .before .before .pre .0 .lined) (c .before .before .before .before .before .before .before .before .before .before .before .before .before .before .before .before .before .before .before .before .before .before .pre .2) (c .before .before .before .before .before .before .before .before .before .before .before .before .refresh .ensures) (c .before .before .before .before .before .before .before .before .before .before .before .before .before .before .before .before .before .before .before .before .before .before .pre .1) (c .before .before .before .before .before .before .before .pick .ensures), c .before .before .put-row .ensures ∙ ap (λ (r : Row). sets (a .out .now) (29 * a .k) (rowBytes r)) (turn-row (c .before .before .before .before .before .before .before .before .before .before .before .before .before .before .before .before .before .before .before .before .before .before .pre .0 .lined) (c .before .before .before .before .before .before .before .before .before .before .before .before .before .before .before .before .before .before .before .before .before .before .pre .2) (c .before .before .before .before .before .before .before .before .before .before .before .before .refresh .ensures) (c .before .before .before .before .before .before .before .before .before .before .before .before .before .before .before .before .before .before .before .before .before .before .pre .1) (c .before .before .before .before .before .before .before .pick .ensures) (c .before .before .before .before .before .before .track-at .ensures) (c .before .before .before .before .row-at .ensures)))
+    let p = c .before .before .before .before .before .before .before .before .before .before .before .before .before .before .before .before .before .before .before .before .pre in
+    let f = c .before .before .before .before .before .before .before .before .before .before .before .before .before .before .refresh .ensures in
+    let q = c .before .before .before .before .before .before .before .before .before .before .pick .ensures in
+    let x = subst (λ (z : Cause). EndingOf z (c .before .before .before .before .before .before .before .ending-of .result)) (c .before .before .before .before .before .before .before .before .best-of .ensures) (c .before .before .before .before .before .before .before .ending-of .ensures) in
+    let y = c .before .before .before .before .end-tip .ensures in
+    (y .0, turn-state (p .0 .accepted) (p .3) f (p .4) q x (y .1), turn-row (p .0 .accepted) (p .3) f (p .4) q x (y .1))
 
 pub take-turn-spec : {M : Type 1} → statement M
 take-turn-spec =
@@ -55,13 +45,9 @@ take-turn-spec =
     (tie.spec
     refresh-requires
     pick-requires
-    track-at-requires
-    row-at-requires
-    mul-put-row
-    put-row-requires
-    mul-over
-    slice-write-over
+    best-of-requires
+    ending-of-requires
+    end-tip-requires
     same-length
     same-length-2
-    same-length-3
     returns)
