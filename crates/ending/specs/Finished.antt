@@ -1,7 +1,7 @@
 -- A tip ends: what the code asks and does, over the sheet, the tips and the rows.
 use mathlib.Core.Path.{_≡_}
 use mathlib.Core.List.{List}
-use Prim.Native.Nat.{ℕ, _*_, _<_}
+use Prim.Native.Nat.{ℕ, _*_, _≤_, _<_}
 use lib.ListN.{length}
 use lib.Seq.{sets}
 use Rattle.sheet.specs.Listing.{Listing}
@@ -12,6 +12,10 @@ use Rattle.causes.specs.Cause.{tipAt}
 use Rattle.tips.specs.Tips.{Tip, tipIn, withEnd}
 use Rattle.look.specs.Ends.{endOf}
 use Rattle.ending.specs.Ended.{Endable}
+
+-- the rows of all tracks have room
+abbrev pub RoomFor : Listing → List ℕ → Type 0
+RoomFor S out = 29 * length (S .tracks) ≤ length out
 
 -- the tip at i is on the sheet when it ends, and there is a row to come after k
 pub record MayEnd (S : Listing) (i k : ℕ) (ts : List Tip) : Type 0 where

@@ -1,12 +1,11 @@
 // What both runs do when a tip ends: how its cause ends it (SHEETS 4.10), its row, and its end noted (SHEETS 5.1).
 ghost use mathlib.Core.Path.{_≡_};
-ghost use Prim.Native.Nat.{_+_, _*_, _≤_};
-ghost use lib.ListN.{length};
+ghost use Prim.Native.Nat.{_+_, _≤_};
 ghost use Rattle.causes.specs.Cause.{Fine};
 ghost use Rattle.records.specs.Records.{Recorded, sheetIn};
 ghost use Rattle.tips.specs.Tips.{Room, tipsIn};
 ghost use Rattle.ending.specs.Ended.{EndingOf};
-ghost use Rattle.ending.specs.Finished.{MayEnd, Finished};
+ghost use Rattle.ending.specs.Finished.{RoomFor, MayEnd, Finished};
 use causes::Cause;
 use rule::Ending;
 
@@ -29,8 +28,15 @@ pub fn ending_of(c: Cause) -> Ending
 }
 
 // The tip at i ends by its cause; its row comes after the `rows` that are out.
-pub fn end_tip(records: &[u16], i: usize, ending: Ending, rows: usize, tips: &mut [u64], out: &mut [u8]) -> usize
-    requires { ⌜ Recorded (now records) × Room (now tips) × MayEnd (sheetIn (now records)) i rows (tipsIn (now tips)) × (29 * length (sheetIn (now records) .tracks) ≤ length (now out)) ⌝ }
+pub fn end_tip(
+    records: &[u16],
+    i: usize,
+    ending: Ending,
+    rows: usize,
+    tips: &mut [u64],
+    out: &mut [u8],
+) -> usize
+    requires { ⌜ Recorded (now records) × Room (now tips) × MayEnd (sheetIn (now records)) i rows (tipsIn (now tips)) × RoomFor (sheetIn (now records)) (now out) ⌝ }
     ensures { λ r. ⌜ (r ≡ rows + 1) × Finished (sheetIn (now (records .entry))) i rows ending (tipsIn (now (tips .entry))) (now (out .entry)) (tipsIn (now (tips .exit))) (now (out .exit)) ⌝ }
 {
     let a = records::track_at(records, i);

@@ -12,6 +12,7 @@ ghost use Rattle.causes.specs.Cause.{tipAt};
 ghost use Rattle.records.specs.Records.{Recorded, sheetIn};
 ghost use Rattle.tips.specs.Tips.{Room, tipsIn};
 ghost use Rattle.ending.specs.Ended.{nextRow};
+ghost use Rattle.ending.specs.Finished.{RoomFor};
 ghost use Rattle.plain.specs.Key.{Timed, Soonest, keyIn, MayPick, Picked};
 ghost use Rattle.plain.specs.State.{AllKnown, Based, Held, Refreshed, Begun, State};
 use causes::Cause;
@@ -131,7 +132,7 @@ fn refresh(records: &[u16], known: &[u8], tips: &mut [u64])
 
 // The next row, the k-th, goes to its place.
 fn take_turn(records: &[u16], known: &[u8], tips: &mut [u64], k: usize, out: &mut [u8]) -> usize
-    requires { ⌜ Recorded (now records) × AllKnown (now known) × Room (now tips) × State (sheetIn (now records)) k (tipsIn (now tips)) × (k < length (sheetIn (now records) .tracks)) × (29 * length (sheetIn (now records) .tracks) ≤ length (now out)) ⌝ }
+    requires { ⌜ Recorded (now records) × AllKnown (now known) × Room (now tips) × State (sheetIn (now records)) k (tipsIn (now tips)) × (k < length (sheetIn (now records) .tracks)) × RoomFor (sheetIn (now records)) (now out) ⌝ }
     ensures { λ r. ⌜ (r ≡ k + 1) × State (sheetIn (now (records .entry))) (k + 1) (tipsIn (now (tips .exit))) × (now (out .exit) ≡ sets (now (out .entry)) (29 * k) (rowBytes (nextRow (sheetIn (now (records .entry))) k))) ⌝ }
 {
     refresh(records, known, tips);
@@ -142,7 +143,7 @@ fn take_turn(records: &[u16], known: &[u8], tips: &mut [u64], k: usize, out: &mu
 
 // All rows, in the roll's order.
 fn take_turns(records: &[u16], known: &[u8], tips: &mut [u64], out: &mut [u8])
-    requires { ⌜ Recorded (now records) × AllKnown (now known) × Room (now tips) × State (sheetIn (now records)) 0 (tipsIn (now tips)) × (29 * length (sheetIn (now records) .tracks) ≤ length (now out)) ⌝ }
+    requires { ⌜ Recorded (now records) × AllKnown (now known) × Room (now tips) × State (sheetIn (now records)) 0 (tipsIn (now tips)) × RoomFor (sheetIn (now records)) (now out) ⌝ }
     ensures { λ r. ⌜ Written (rollOf (sheetIn (now (records .entry)))) (now (out .entry)) (now (out .exit)) ⌝ }
 {
     let n = records::track_count(records);
@@ -154,7 +155,7 @@ fn take_turns(records: &[u16], known: &[u8], tips: &mut [u64], out: &mut [u8])
 
 // The roll of the sheet in the records. Every tip knows every other.
 fn roll_of(records: &[u16], out: &mut [u8])
-    requires { ⌜ Recorded (now records) × (29 * length (sheetIn (now records) .tracks) ≤ length (now out)) ⌝ }
+    requires { ⌜ Recorded (now records) × RoomFor (sheetIn (now records)) (now out) ⌝ }
     ensures { λ r. ⌜ Written (rollOf (sheetIn (now (records .entry)))) (now (out .entry)) (now (out .exit)) ⌝ }
 {
     let known = [1u8; 256];

@@ -40,7 +40,7 @@ returns c =
     let a = c .before .before .before .before .before .before .before .before .before .before .before .before .before .before .before .args in (
       refl,
       is-finished (sheetIn (a .records .now)) (a .i) (a .rows) (a .ending) (tipsIn (a .tips .now)) (a .out .now) (c .before .before .before .before .before .before .before .before .before .before .before .track-at .result) (c .before .before .before .before .before .before .before .before .before .best-of .result)
-      (c .before .before .before .before .before .before .before .before .before .before .before .track-at .ensures) (c .before .before .before .before .before .before .before .before .before .best-of .ensures) (c .before .before .before .before .before .before .before .before .row-of .ensures) (c .before .before .before .before .before .before .put-row .ensures) (c .before .before .put-end .ensures),
+          (c .before .before .before .before .before .before .before .before .before .before .before .track-at .ensures) (c .before .before .before .before .before .before .before .before .before .best-of .ensures) (c .before .before .before .before .before .before .before .before .row-of .ensures) (c .before .before .before .before .before .before .put-row .ensures) (c .before .before .put-end .ensures),
     )
 
 pub end-tip-spec : {M : Type 1} → statement M
