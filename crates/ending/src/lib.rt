@@ -40,8 +40,8 @@ pub fn end_tip(
     ensures { λ r. ⌜ (r ≡ rows + 1) × Finished (sheetIn (now (records .entry))) i rows ending (tipsIn (now (tips .entry))) (now (out .entry)) (tipsIn (now (tips .exit))) (now (out .exit)) ⌝ }
 {
     let a = records::track_at(records, i);
-    let c = tips::best_of(tips, i);
-    let row = row::row_of(a, c.u, c.ud, ending);
+    let cause = tips::best_of(tips, i);
+    let row = row::row_of(a, cause.u, cause.ud, ending);
     row::put_row(out, 29 * rows, row);
     tips::put_end(tips, i);
     rows + 1

@@ -3,9 +3,8 @@
 ghost use Prim.Native.Nat.{_*_, _≤_};
 ghost use lib.ListN.{length};
 ghost use Rattle.sheet.specs.HandedIn.{handedIn};
-ghost use Rattle.records.specs.Records.{Handed};
+ghost use Rattle.records.specs.Records.{Handed, Recorded, sheetIn};
 ghost use Rattle.cells.specs.Grid.{Figure};
-ghost use Rattle.records.specs.Records.{Recorded, sheetIn};
 ghost use Rattle.grid_state.specs.Sweep.{Swept};
 ghost use Rattle.grid_state.specs.Run.{Going};
 ghost use Rattle.grid.specs.Ran.{Ran};
