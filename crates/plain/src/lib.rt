@@ -6,7 +6,7 @@ ghost use lib.ListN.{length};
 ghost use lib.Seq.{sets};
 ghost use Rattle.sheet.specs.Accepted.{TrackOk};
 ghost use Rattle.sheet.specs.HandedIn.{handedIn};
-ghost use Rattle.rule.specs.RowBytes.{rowBytes};
+ghost use Rattle.rule.specs.RowBytes.{rowBytes, rowWidth};
 ghost use Rattle.rule.specs.Selection.{rollOf};
 ghost use Rattle.row.specs.Written.{Written};
 ghost use Rattle.lines.specs.Lines.{Walled, Lined, Handed};
@@ -156,14 +156,14 @@ fn take_turn(
     out: &mut [u8],
     k: usize,
 )
-    requires { ⌜ Laid (now starts) (now speeds) n (now walls) m (now known) × (k < n) × State (listed (now starts) (now speeds) n (now walls) m) (now table) (now over) k × (29 * k + 29 ≤ length (now out)) ⌝ }
-    ensures { λ r. ⌜ State (listed (now (starts .entry)) (now (speeds .entry)) n (now (walls .entry)) m) (now (table .exit)) (now (over .exit)) (k + 1) × (now (out .exit) ≡ sets (now (out .entry)) (29 * k) (rowBytes (nextRow (listed (now (starts .entry)) (now (speeds .entry)) n (now (walls .entry)) m) k))) ⌝ }
+    requires { ⌜ Laid (now starts) (now speeds) n (now walls) m (now known) × (k < n) × State (listed (now starts) (now speeds) n (now walls) m) (now table) (now over) k × (rowWidth * k + rowWidth ≤ length (now out)) ⌝ }
+    ensures { λ r. ⌜ State (listed (now (starts .entry)) (now (speeds .entry)) n (now (walls .entry)) m) (now (table .exit)) (now (over .exit)) (k + 1) × (now (out .exit) ≡ sets (now (out .entry)) (rowWidth * k) (rowBytes (nextRow (listed (now (starts .entry)) (now (speeds .entry)) n (now (walls .entry)) m) k))) ⌝ }
 {
     refresh(starts, speeds, n, walls, m, known, table, over);
     let i = pick(starts, n, table, over);
     let a = lines::track_at(starts, speeds, i);
     let row = turn::row_at(a, i, table);
-    row::put_row(out, 29 * k, row);
+    row::put_row(out, row::WIDTH * k, row);
     over[i] = 1;
 }
 
@@ -179,7 +179,7 @@ fn take_turns(
     over: &mut [u64],
     out: &mut [u8],
 )
-    requires { ⌜ Laid (now starts) (now speeds) n (now walls) m (now known) × State (listed (now starts) (now speeds) n (now walls) m) (now table) (now over) 0 × (29 * n ≤ length (now out)) ⌝ }
+    requires { ⌜ Laid (now starts) (now speeds) n (now walls) m (now known) × State (listed (now starts) (now speeds) n (now walls) m) (now table) (now over) 0 × (rowWidth * n ≤ length (now out)) ⌝ }
     ensures { λ r. ⌜ Written (rollOf (listed (now (starts .entry)) (now (speeds .entry)) n (now (walls .entry)) m)) (now (out .entry)) (now (out .exit)) ⌝ }
 {
     let mut k: usize = 0;
@@ -191,7 +191,7 @@ fn take_turns(
 
 // The roll of the sheet whose records lie in the tables. Every tip knows every other.
 fn roll_of(starts: &[u16], speeds: &[u8], n: usize, walls: &[u16], m: usize, out: &mut [u8])
-    requires { ⌜ Lined (listed (now starts) (now speeds) n (now walls) m) (now starts) (now speeds) n (now walls) m × (29 * n ≤ length (now out)) ⌝ }
+    requires { ⌜ Lined (listed (now starts) (now speeds) n (now walls) m) (now starts) (now speeds) n (now walls) m × (rowWidth * n ≤ length (now out)) ⌝ }
     ensures { λ r. ⌜ Written (rollOf (listed (now (starts .entry)) (now (speeds .entry)) n (now (walls .entry)) m)) (now (out .entry)) (now (out .exit)) ⌝ }
 {
     let known = [1u8; 256];
@@ -213,7 +213,7 @@ fn roll_of(starts: &[u16], speeds: &[u8], n: usize, walls: &[u16], m: usize, out
 
 // The roll of an accepted sheet.
 pub fn roll(sheet: Sheet, out: &mut [u8])
-    requires { ⌜ Handed sheet × (29 * sheet .ntracks ≤ length (now out)) ⌝ }
+    requires { ⌜ Handed sheet × (rowWidth * sheet .ntracks ≤ length (now out)) ⌝ }
     ensures { λ r. ⌜ Written (rollOf (handedIn sheet)) (now (out .entry)) (now (out .exit)) ⌝ }
 {
     let mut starts = [0u16; 768];

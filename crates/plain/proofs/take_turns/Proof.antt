@@ -4,7 +4,7 @@ use Prim.Native.Nat.{_*_, _≤_, _-_}
 use native.Mathlib.Omega.{arith}
 use lib.ListN.{length, take}
 use lib.Seq.{length-sets}
-use Rattle.rule.specs.RowBytes.{rowBytes}
+use Rattle.rule.specs.RowBytes.{rowBytes, rowWidth}
 use Rattle.rule.specs.Selection.{rollOf}
 use Rattle.row.specs.Written.{Written}
 use Rattle.row.proofs.Roll.{written-none}
@@ -46,7 +46,7 @@ loop-again c =
       omega (arith, l),
       g .0,
       written-next S k (v .1 .out) (g .0 .out) (omega (arith, c .before .before .before .before .before .before .before .before .before .before .before .before .before .before .before .before .before .before .before .pre .2, l)) (g .1) (v .2),
-      ap length (g .1) ∙ length-sets (c .before .before .before .before .before .before .before .before .before .before .before .loop .out) (29 * k) (rowBytes (nextRow S k)) ∙ v .3,
+      ap length (g .1) ∙ length-sets (c .before .before .before .before .before .before .before .before .before .before .before .loop .out) (rowWidth * k) (rowBytes (nextRow S k)) ∙ v .3,
     )
 
 same-length : tie.Need-same-length Inv-loop μ-loop
