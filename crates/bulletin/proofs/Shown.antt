@@ -12,7 +12,7 @@ use Rattle.sheet.specs.HandedIn.{handedIn, checkOf, sheetOf}
 use Rattle.sheet.proofs.Lent.{said-refused, kept}
 use Rattle.sheet.proofs.RoundTrip.{handed-back, written-read}
 use Rattle.reader.specs.Reading.{recordsOf, ifAccepted}
-use Rattle.rule.specs.RowBytes.{rollBytes}
+use Rattle.rule.specs.RowBytes.{rollBytes, rowWidth}
 use Rattle.rule.specs.Selection.{rollOf}
 use Rattle.session.specs.declared.Session.{Session}
 use Rattle.session.specs.declared.Advanced.{Advanced}
@@ -25,7 +25,7 @@ module _ (s : List ℕ) (n : ℕ) (lent : List ℕ) where
   unfolding advanceSession
   not-opened e a z =
       let F = firstRows s n in
-      let q = said-refused (orShort (29 * length F) (length lent) (length F)) e in
+      let q = said-refused (orShort (rowWidth * length F) (length lent) (length F)) e in
       record {
         answer = a ∙ sym q;
         session = z ∙ sym (ap (λ (R : Returned). advanceSession R (begun (sheetOf (recordsOf s)))) q);

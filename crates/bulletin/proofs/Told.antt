@@ -15,15 +15,15 @@ use Rattle.sheet.proofs.Lent.{said-given, put, gave, refused-so}
 use Rattle.sheet.proofs.RoundTrip.{accepted-records, handed-back, written-read}
 use Rattle.reader.specs.Reading.{recordsOf, ifAccepted}
 use Rattle.rule.specs.declared.Row.{Row}
-use Rattle.rule.specs.RowBytes.{rollBytes}
+use Rattle.rule.specs.RowBytes.{rollBytes, rowWidth}
 use Rattle.rule.specs.Selection.{rollOf}
 use Rattle.sheet.specs.declared.Answer.the-variants.{Gives, Refused}
 use Rattle.sheet.specs.Answer.{answered}
 use Rattle.session.specs.declared.Session.{Session}
 use Rattle.session.specs.declared.Advanced.{Advanced}
 use Rattle.session.specs.Stepping.{begun, advanceSession, runningOf}
-use Rattle.stored.specs.Stored.{rowsIn}
-use Rattle.stored.proofs.ReadBack.{front-back}
+use Rattle.row.specs.Stored.{rowsIn}
+use Rattle.row.proofs.ReadBack.{front-back}
 use Rattle.text.specs.Lines.{refusedOf}
 use Rattle.page.specs.Behind.{Behind}
 use Rattle.page.specs.Rows.{linesOf}
@@ -62,11 +62,11 @@ module _ (s : List ℕ) (bytes : AllBytes s) where
       ∙ (λ j. andThen (k j) (gives (length (drop (min 0 (length (rollOf (i j))) + length F) (rollOf (i j))))))
       ∙ ap gives (left-behind (rollOf S))
 
-  module _ {before rows : List ℕ} (long : length before ≡ 87) {r : Advanced} (h : Shows s 3 before rows r) where
+  module _ {before rows : List ℕ} (long : length before ≡ 3 * rowWidth) {r : Advanced} (h : Shows s 3 before rows r) where
     pub rows-read : {n : ℕ} → r .answer ≡ Gives n → Read s rows n (r .session)
     rows-read {n} q =
-        let g = gave (29 * length F) (length before) (length F) (decided s) (sym (ap answered q) ∙ h .answer) in
-        let v = said-given (29 * length F) (length before) (length F) (g .accepts) (g .room) in
+        let g = gave (rowWidth * length F) (length before) (length F) (decided s) (sym (ap answered q) ∙ h .answer) in
+        let v = said-given (rowWidth * length F) (length before) (length F) (g .accepts) (g .room) in
         let x = h .buffer ∙ put (rollBytes F) before v in
         let rest = drop (length (rollBytes F)) before in
         record {
@@ -77,7 +77,7 @@ module _ (s : List ℕ) (bytes : AllBytes s) where
         }
 
     pub as-refused : {n p : ℕ} → r .answer ≡ Refused n p → verdictOf s ≡ refused n p
-    as-refused q = refused-so (29 * length F) (length before) (length F) (decided s) (λ e. omega (arith, three, long)) (sym (ap answered q) ∙ h .answer)
+    as-refused q = refused-so (rowWidth * length F) (length before) (length F) (decided s) (λ e. omega (arith, three, long)) (sym (ap answered q) ∙ h .answer)
 
   module _ {out exit : List ℕ} {end : ℕ} where
     pub tells : {rows mid : List ℕ} {at n : ℕ} {t : Session} → Read s rows n t → Behind (linesOf (rowsIn rows n)) 0 out at mid → Behind (runningText (runningOf (checkOf (t .sheet)) t)) at mid end exit → take end exit ≡ bulletinOf s

@@ -1,7 +1,7 @@
 -- What the bulletin shows of a sheet's bytes and prints: the front of the sheet's one roll, or its refusal (SHEETS 9.4).
 use mathlib.Core.Path.{_≡_}
 use mathlib.Core.List.{List, [], _++_}
-use Prim.Native.Nat.{ℕ}
+use Prim.Native.Nat.{ℕ, _+_, _*_}
 use lib.ListN.{length, take, drop}
 use Rattle.sheet.specs.HandedIn.{sheetOf}
 use Rattle.sheet.specs.Lent.{after}
@@ -15,7 +15,7 @@ use Rattle.rule.specs.Selection.{rollOf}
 use Rattle.sheet.specs.Answer.{answered}
 use Rattle.session.specs.declared.Advanced.{Advanced}
 use Rattle.session.specs.Stepping.{begun, advanceReturns, advanceSession}
-use Rattle.text.specs.Lines.{refusedOf, stillOf}
+use Rattle.text.specs.Lines.{refusedOf, stillOf, longestLine, longestStill}
 use Rattle.page.specs.Rows.{linesOf}
 
 -- the first n rows of the roll, or all if it has fewer
@@ -46,3 +46,7 @@ bulletinFor (refused n p) roll = refusedOf n p
 -- the whole text for a sheet's bytes
 abbrev pub bulletinOf : List ℕ → List ℕ
 bulletinOf s = bulletinFor (verdictOf s) (rollOf (listing (commandsOf s)))
+
+-- how many bytes the longest has at most: three rows' lines and the number still running
+abbrev pub bulletinRoom : ℕ
+bulletinRoom = 3 * longestLine + longestStill

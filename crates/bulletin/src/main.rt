@@ -6,8 +6,9 @@ ghost use Prim.Native.Nat.{_+_, _≤_};
 ghost use lib.ListN.{length, take};
 ghost use Rattle.sheet.specs.HandedIn.{checkOf};
 ghost use Rattle.session.specs.Stepping.{runningOf};
+ghost use Rattle.text.specs.Lines.{longestStill};
 ghost use Rattle.page.specs.Behind.{Behind};
-ghost use Rattle.bulletin.specs.Bulletin.{Shows, runningText, bulletinOf};
+ghost use Rattle.bulletin.specs.Bulletin.{Shows, runningText, bulletinOf, bulletinRoom};
 use fissures::Advanced;
 use fissures::Answer;
 use fissures::Session;
@@ -15,7 +16,7 @@ use fissures::Verdict;
 use libc::STDIN_FILENO;
 use libc::STDOUT_FILENO;
 
-// Opens a session over a sheet's bytes and writes the first n rows of its roll, or all if fewer, 29 bytes a row. Any bytes may come: a
+// Opens a session over a sheet's bytes and writes the first n rows of its roll, or all if fewer. Any bytes may come: a
 // refused sheet gives the table's number and place.
 fn first_rows(sheet: &[u8], n: usize, rows: &mut [u8]) -> Advanced
     ensures { λ r. ⌜ Shows (now (sheet .entry)) n (now (rows .entry)) (now (rows .exit)) r ⌝ }
@@ -32,9 +33,9 @@ fn first_rows(sheet: &[u8], n: usize, rows: &mut [u8]) -> Advanced
     }
 }
 
-// How many tracks still run: a line of 35 bytes at most.
+// How many tracks still run.
 fn put_running(session: Session, at: usize, out: &mut [u8]) -> usize
-    requires { ⌜ at + 35 ≤ length (now out) ⌝ }
+    requires { ⌜ at + longestStill ≤ length (now out) ⌝ }
     ensures { λ r. ⌜ Behind (runningText (runningOf (checkOf (session .sheet)) session)) at (now (out .entry)) r (now (out .exit)) ⌝ }
 {
     let running = session.running();
@@ -44,12 +45,15 @@ fn put_running(session: Session, at: usize, out: &mut [u8]) -> usize
     }
 }
 
-// The text for a sheet: three rows have 87 bytes, and their lines at most 441.
+// The bytes of the rows shown.
+const ROWS: usize = 3 * row::WIDTH;
+
+// The text for a sheet.
 fn bulletin(sheet: &[u8], out: &mut [u8]) -> usize
-    requires { ⌜ 476 ≤ length (now out) ⌝ }
+    requires { ⌜ bulletinRoom ≤ length (now out) ⌝ }
     ensures { λ r. ⌜ (take r (now (out .exit)) ≡ bulletinOf (now (sheet .entry))) × (r ≤ length (now (out .exit))) ⌝ }
 {
-    let mut rows = [0u8; 87];
+    let mut rows = [0u8; ROWS];
     let shown = first_rows(sheet, 3, &mut rows);
     let session = shown.session;
     let answer = shown.answer;
@@ -62,11 +66,16 @@ fn bulletin(sheet: &[u8], out: &mut [u8]) -> usize
     }
 }
 
-// The first 5,131 bytes decide every sheet (SHEETS 2.10).
+// The first bytes decide every sheet, and one byte more is read (SHEETS 2.10).
+const READ: usize = sheet::DECIDING + 1;
+
+// Room for every bulletin.
+const ROOM: usize = 512;
+
 fn main() {
-    let mut sheet = [0u8; 5132];
+    let mut sheet = [0u8; READ];
     let length = io::read_full(STDIN_FILENO, &mut sheet);
-    let mut out = [0u8; 512];
+    let mut out = [0u8; ROOM];
     let n = bulletin(&sheet[..length], &mut out);
     io::write_all(STDOUT_FILENO, &out[..n]);
 }

@@ -11,7 +11,7 @@ use Rattle.sheet.specs.declared.Track.{Track}
 use Rattle.rule.specs.declared.Row.{Row}
 use Rattle.rule.specs.declared.Ending.{Ending}
 use Rattle.rule.specs.Motion.{Inside}
-use Rattle.rule.specs.RowBytes.{rowBytes}
+use Rattle.rule.specs.RowBytes.{rowBytes, rowWidth}
 use Rattle.row.specs.RowAt.{rowAt}
 use Rattle.causes.specs.declared.Cause.{Cause}
 use Rattle.causes.specs.Cause.{tipAt}
@@ -26,12 +26,12 @@ row-asked {a} {b} {c} {d} p q h =
 
 pub is-finished :
     (S : Listing) (i k : ℕ) (e : Ending) (ts : List Tip) {ts′ : List Tip} (out : List ℕ) {out′ : List ℕ} (a : Track) (c : Cause) {r : Row} → a ≡ tipAt S i → c ≡ tipIn ts i .best
-    → r ≡ rowAt a (fraction (c .u) (c .ud)) e → out′ ≡ sets out (29 * k) (rowBytes r) → ts′ ≡ withEnd ts i → Finished S i k e ts out ts′ out′
+    → r ≡ rowAt a (fraction (c .u) (c .ud)) e → out′ ≡ sets out (rowWidth * k) (rowBytes r) → ts′ ≡ withEnd ts i → Finished S i k e ts out ts′ out′
 is-finished S i k e ts out a c p q m w n =
     record {
       noted = n;
       written =
           w
-          ∙ ap (λ (z : Row). sets out (29 * k) (rowBytes z))
+          ∙ ap (λ (z : Row). sets out (rowWidth * k) (rowBytes z))
           (m ∙ ap (λ (z : Track). rowAt z (fraction (c .u) (c .ud)) e) p ∙ ap (λ (z : Cause). rowAt (tipAt S i) (fraction (z .u) (z .ud)) e) q);
     }

@@ -10,7 +10,7 @@ use lib.Seq.{sets, take-all, take-suc}
 use Rattle.sheet.specs.Accepted.{Accepted}
 use Rattle.sheet.specs.Listing.{Listing}
 use Rattle.rule.specs.declared.Row.{Row}
-use Rattle.rule.specs.RowBytes.{rowBytes}
+use Rattle.rule.specs.RowBytes.{rowBytes, rowWidth}
 use Rattle.rule.specs.Selection.{rollOf}
 use Rattle.rule.specs.Meanwhile.{Progress}
 use Rattle.rule.proofs.Turn.{progress-end}
@@ -27,8 +27,8 @@ in-roll l k h = go (decLt k (length l))
     go (no x) = let e = take-all (k + 1) l (omega arith) in absurd (omega (arith, ap length e))
 
 pub written-next :
-    (S : Listing) (k : ℕ) {before after more : List ℕ} → length (take k (rollOf S)) ≡ k → length (take (k + 1) (rollOf S)) ≡ k + 1 → 29 * k + 29 ≤ length before →
-    more ≡ sets after (29 * k) (rowBytes (nextRow S k)) → Written (take k (rollOf S)) before after → Written (take (k + 1) (rollOf S)) before more
+    (S : Listing) (k : ℕ) {before after more : List ℕ} → length (take k (rollOf S)) ≡ k → length (take (k + 1) (rollOf S)) ≡ k + 1 → rowWidth * k + rowWidth ≤ length before →
+    more ≡ sets after (rowWidth * k) (rowBytes (nextRow S k)) → Written (take k (rollOf S)) before after → Written (take (k + 1) (rollOf S)) before more
 written-next S k {before} {after} {more} e g h x w =
     let f : take (k + 1) (rollOf S) ≡ take k (rollOf S) ++ (nextRow S k ∷ []) = rw add-one (take-suc (rollOf S) k _ (in-roll (rollOf S) k g)) in
     subst (λ (z : List Row). Written z before more) (sym f) (written-more w (nextRow S k) (omega arith) (omega arith) x)

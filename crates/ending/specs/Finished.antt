@@ -6,7 +6,7 @@ use lib.ListN.{length}
 use lib.Seq.{sets}
 use Rattle.sheet.specs.Listing.{Listing}
 use Rattle.rule.specs.declared.Ending.{Ending}
-use Rattle.rule.specs.RowBytes.{rowBytes}
+use Rattle.rule.specs.RowBytes.{rowBytes, rowWidth}
 use Rattle.row.specs.RowAt.{rowAt}
 use Rattle.causes.specs.Cause.{tipAt}
 use Rattle.tips.specs.Tips.{Tip, tipIn, withEnd}
@@ -15,7 +15,7 @@ use Rattle.ending.specs.Ended.{Endable}
 
 -- the rows of all tracks have room
 abbrev pub RoomFor : Listing → List ℕ → Type 0
-RoomFor S out = 29 * length (S .tracks) ≤ length out
+RoomFor S out = rowWidth * length (S .tracks) ≤ length out
 
 -- the tip at i is on the sheet when it ends, and there is a row to come after k
 pub record MayEnd (S : Listing) (i k : ℕ) (ts : List Tip) : Type 0 where
@@ -26,4 +26,4 @@ pub record MayEnd (S : Listing) (i k : ℕ) (ts : List Tip) : Type 0 where
 -- its end is noted, and its row is at place k
 pub record Finished (S : Listing) (i k : ℕ) (e : Ending) (ts : List Tip) (out : List ℕ) (ts′ : List Tip) (out′ : List ℕ) : Type 0 where
   pub noted : ts′ ≡ withEnd ts i
-  pub written : out′ ≡ sets out (29 * k) (rowBytes (rowAt (tipAt S i) (endOf (tipIn ts i)) e))
+  pub written : out′ ≡ sets out (rowWidth * k) (rowBytes (rowAt (tipAt S i) (endOf (tipIn ts i)) e))

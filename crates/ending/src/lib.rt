@@ -42,7 +42,7 @@ pub fn end_tip(
     let a = records::track_at(records, i);
     let cause = tips::best_of(tips, i);
     let row = row::row_of(a, cause.u, cause.ud, ending);
-    row::put_row(out, 29 * rows, row);
+    row::put_row(out, row::WIDTH * rows, row);
     tips::put_end(tips, i);
     rows + 1
 }

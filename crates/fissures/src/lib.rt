@@ -23,10 +23,10 @@ pub use plain_run::plain_roll;
 pub use plain_run::plain_roll_bytes;
 
 // Its rows, read back from bytes and printed.
+pub use row::Stored;
+pub use row::row_at;
 pub use rule::Ending;
 pub use rule::Row;
-pub use stored::Stored;
-pub use stored::row_at;
 pub use text::head;
 pub use text::line;
 pub use text::refusal;

@@ -18,7 +18,7 @@ use Rattle.sheet.proofs.Decided.{Decided, decided}
 use Rattle.sheet.proofs.Lent.{said-refused, kept, put, gave}
 use Rattle.sheet.proofs.RoundTrip.{handed-back, written-read}
 use Rattle.reader.specs.Reading.{recordsOf, ifAccepted}
-use Rattle.rule.specs.RowBytes.{rollBytes}
+use Rattle.rule.specs.RowBytes.{rollBytes, rowWidth}
 use Rattle.rule.specs.Selection.{rollOf}
 use Rattle.sheet.specs.declared.Answer.{Answer}
 use Rattle.sheet.specs.declared.Answer.the-variants.{Gives, Refused}
@@ -134,7 +134,7 @@ module _ (s session : List ℕ) where
             let rows = rowsBehind s session n in
             let g : gives k ≡ stepping.advanceOf (sessionOf s session) n (length out) = sym f ∙ h .answer in
             let G : gives k ≡ R = g ∙ same-answer in
-            let c = gave (29 * length rows) (length out) (length rows) (accepted-decides (judge s session) e) G .count in
+            let c = gave (rowWidth * length rows) (length out) (length rows) (accepted-decides (judge s session) e) G .count in
             let b : r .session .shown ≡ min (shown session) (length (rollOf (handedIn (sheetOf (recordsOf s))))) + k = ap (λ (u : Session). u .shown) (h .session ∙ ap (λ (Q : Returned). stepping.advanceSession Q (sessionOf s session)) (sym g)) in
             let d : r .session .shown ≡ shownThen s session n = b ∙ (λ j. min (shown session) (length (rollOf (same-records j))) + c j) in
             first-set session (r .session .shown) (fits e .room) ∙ ap (λ (v : ℕ). v ∷ drop 1 session) d ∙ sym (put (shownThen s session n ∷ []) session (sym G))
@@ -160,7 +160,7 @@ module _ (s session : List ℕ) where
   pub as-judged : (n : ℕ) (out : List ℕ) {r second m p : ℕ} → Told r second (refused m p) → judge s session ≡ refused m p → (r, second, session, out) ≡ advanceCall s session n out
   as-judged n out t e =
       let rows = rowsBehind s session n in
-      let j = said-refused (orShort (29 * length rows) (length out) (length rows)) e in
+      let j = said-refused (orShort (rowWidth * length rows) (length out) (length rows)) e in
       left-four t (sym j) (sym (kept (shownThen s session n ∷ []) session j)) (sym (kept (rollBytes rows) out j))
 
   pub not-running : {r second m p : ℕ} → Told r second (refused m p) → judge s session ≡ refused m p → (r, second) ≡ runningCall s session

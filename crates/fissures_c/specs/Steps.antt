@@ -14,10 +14,10 @@ use Rattle.reader.specs.Reading.{recordsOf}
 use Rattle.rule.specs.declared.Ending.{Ending}
 use Rattle.rule.specs.declared.Ending.the-variants.{Edge}
 use Rattle.rule.specs.declared.Row.{Row}
-use Rattle.rule.specs.RowBytes.{rollBytes}
+use Rattle.rule.specs.RowBytes.{rollBytes, rowWidth}
 use Rattle.rule.specs.Selection.{rollOf}
 use Rattle.session.specs.declared.Begun.{Begun}
-use Rattle.stored.specs.Stored.{endingFrom}
+use Rattle.row.specs.Stored.{endingFrom}
 use Rattle.names.specs.Partner.{Part, ofTracks, ofWalls, partnerName}
 use Rattle.fissures_c.specs.Answers.{number, other, told, leaves}
 
@@ -60,7 +60,7 @@ abbrev pub shownThen : List ℕ → List ℕ → ℕ → ℕ
 shownThen s session n = min (shown session) (length (rollOfBytes s)) + length (rowsBehind s session n)
 
 abbrev pub advanceGives : List ℕ → List ℕ → ℕ → ℕ → Returned
-advanceGives s session n lent = let rows = rowsBehind s session n in andThen (judge s session) (orShort (29 * length rows) lent (length rows))
+advanceGives s session n lent = let rows = rowsBehind s session n in andThen (judge s session) (orShort (rowWidth * length rows) lent (length rows))
 
 -- the two numbers, the session and the rows
 abbrev pub advanceCall : List ℕ → List ℕ → ℕ → List ℕ → ℕ × ℕ × List ℕ × List ℕ

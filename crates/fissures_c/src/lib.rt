@@ -12,6 +12,7 @@ use rule::Ending;
 use session::Begun;
 use session::Session;
 use sheet::Answer;
+use sheet::OUTPUT_TOO_SHORT;
 use sheet::Verdict;
 
 // The two numbers of an answer: the first is handed back, the other stored.
@@ -122,7 +123,7 @@ fn take(s: &[u8], session: &[u64]) -> Begun
             if session.len() < SESSION {
                 return Begun {
                     session: opened,
-                    answer: Verdict::Refused(12, SESSION),
+                    answer: Verdict::Refused(OUTPUT_TOO_SHORT, SESSION),
                 };
             }
             let sheet = opened.sheet;
@@ -206,7 +207,7 @@ fn ending_of(kind: u64, partner: u64) -> Ending
     if 65535 < partner {
         return Ending::Edge;
     }
-    stored::ending_from(kind, partner as u16)
+    row::ending_from(kind, partner as u16)
 }
 
 // Where the partner's name lies: in list 1, of the tracks, or 2, of the walls. Any kind and any partner may come.

@@ -12,6 +12,7 @@ use Rattle.sheet.specs.declared.Sheet.{Sheet}
 use Rattle.sheet.specs.HandedIn.{handedIn, noTrack}
 use Rattle.sheet.specs.Listing.{Listing}
 use Rattle.rule.specs.Selection.{rollOf}
+use Rattle.rule.specs.RowBytes.{rowWidth}
 use Rattle.row.specs.Written.{Written}
 use Rattle.row.proofs.Roll.{written-none, written-length}
 use Rattle.records.specs.Records.{Handed}
@@ -67,14 +68,14 @@ rows≢over n e = subst IsRows e tt
     IsRows (Rows k) = Unit {0}
     IsRows Over = ⊥
 
-module _ {S : Listing} {g : ℕ} {before : List ℕ} {rows : ℕ} {more : Bool} {t q k m out : List ℕ} (room : 29 * length (S .tracks) ≤ length before) (z : Turning S g before rows more t q k m out) where
+module _ {S : Listing} {g : ℕ} {before : List ℕ} {rows : ℕ} {more : Bool} {t q k m out : List ℕ} (room : rowWidth * length (S .tracks) ≤ length before) (z : Turning S g before rows more t q k m out) where
   few : rows ≤ length (S .tracks)
   few = let r = z .swept .holds .rows in omega (arith, r .out, r .progress .count)
 
   pub turning-long : length out ≡ length before
   turning-long = written-length (z .written) (omega (arith, few, z .swept .holds .rows .out))
 
-  pub turn-room : 29 * length (S .tracks) ≤ length out
+  pub turn-room : rowWidth * length (S .tracks) ≤ length out
   turn-room = omega (arith, turning-long)
 
   -- an event happened
@@ -139,7 +140,7 @@ all-ran {S} {rows = rows} z e f =
 -- ---- the records that were filed
 
 -- there is room for the rows of as many tracks as were handed in
-pub filed-room : {s : Sheet} → Handed s → {S : Listing} (out : List ℕ) → S ≡ handedIn s → 29 * s .ntracks ≤ length out → 29 * length (S .tracks) ≤ length out
+pub filed-room : {s : Sheet} → Handed s → {S : Listing} (out : List ℕ) → S ≡ handedIn s → rowWidth * s .ntracks ≤ length out → rowWidth * length (S .tracks) ≤ length out
 filed-room {s} h out e room =
     let many = length-append (s .tracks) (noTrack ∷ []) in
     let few = length-take-le (s .ntracks) (s .tracks ++ (noTrack ∷ [])) (omega (arith, many, h .tracks-long, h .tracks-in)) in

@@ -8,6 +8,8 @@ ghost use Rattle.cells.specs.Grid.{Figure};
 ghost use Rattle.grid_state.specs.Sweep.{Swept};
 ghost use Rattle.grid_state.specs.Run.{Going};
 ghost use Rattle.grid.specs.Ran.{Ran};
+ghost use Rattle.rule.specs.RowBytes.{rowWidth};
+ghost use Rattle.ending.specs.Finished.{RoomFor};
 use grid_turn::Outcome;
 use sheet::Sheet;
 
@@ -21,7 +23,7 @@ fn turns(
     members: &mut [u16],
     out: &mut [u8],
 ) -> usize
-    requires { ⌜ Recorded (now records) × Swept (Going (sheetIn (now records)) g 0) (now tips) (now queue) (now marks) (now members) × (29 * length (sheetIn (now records) .tracks) ≤ length (now out)) ⌝ }
+    requires { ⌜ Recorded (now records) × Swept (Going (sheetIn (now records)) g 0) (now tips) (now queue) (now marks) (now members) × RoomFor (sheetIn (now records)) (now out) ⌝ }
     ensures { λ r. ⌜ Ran (sheetIn (now (records .entry))) g (now (out .entry)) (now (out .exit)) r ⌝ }
 {
     let mut rows: usize = 0;
@@ -41,7 +43,7 @@ fn turns(
 
 // The roll of the sheet whose records lie in the slice.
 fn run(records: &[u16], g: u64, out: &mut [u8]) -> usize
-    requires { ⌜ Recorded (now records) × Figure g × (29 * length (sheetIn (now records) .tracks) ≤ length (now out)) ⌝ }
+    requires { ⌜ Recorded (now records) × Figure g × RoomFor (sheetIn (now records)) (now out) ⌝ }
     ensures { λ r. ⌜ Ran (sheetIn (now (records .entry))) g (now (out .entry)) (now (out .exit)) r ⌝ }
 {
     let mut tips = [0u64; tips::LENGTH];
@@ -63,7 +65,7 @@ fn run(records: &[u16], g: u64, out: &mut [u8]) -> usize
 
 // The roll of an accepted sheet by the grid of figure g, and the number of cells entered.
 pub fn roll(sheet: Sheet, g: u64, out: &mut [u8]) -> usize
-    requires { ⌜ Handed sheet × Figure g × (29 * sheet .ntracks ≤ length (now out)) ⌝ }
+    requires { ⌜ Handed sheet × Figure g × (rowWidth * sheet .ntracks ≤ length (now out)) ⌝ }
     ensures { λ r. ⌜ Ran (handedIn sheet) g (now (out .entry)) (now (out .exit)) r ⌝ }
 {
     let mut records = [0u16; records::LENGTH];

@@ -25,7 +25,7 @@ use Rattle.sheet.proofs.Lists.{perm-mem}
 use Rattle.sheet.proofs.Order.{Reordered, reordered, accepted-reordered}
 use Rattle.sheet.proofs.RoundTrip.{AllFit, Fit, all-fit, accepted-exactly, order-verdict, read-back, listed}
 use Rattle.rule.specs.declared.Row.{Row}
-use Rattle.rule.specs.RowBytes.{rollBytes}
+use Rattle.rule.specs.RowBytes.{rollBytes, rowWidth}
 use Rattle.rule.specs.Selection.{rollOf}
 use Rattle.rule.proofs.Existence.{roll-of, roll-is, roll-length}
 use Rattle.rule.proofs.OneRoll.{rows-unique}
@@ -48,14 +48,14 @@ use Rattle.grid_run.proofs.Outcome.{figured, rows-count}
 -- ---- what a run of an accepted sheet comes to
 
 module _ (S : Listing) (acc : Accepted S) (before exit : List ℕ) (r : Returned) (answer : r ≡ rollReturns accepted S (length before)) (buffer : exit ≡ after (rollReturns accepted S (length before)) (rollBytes (rollOf S)) before) where
-  lent-short : length before < 29 * length (S .tracks) → Outcome (rollOf S) before exit r
+  lent-short : length before < rowWidth * length (S .tracks) → Outcome (rollOf S) before exit r
   lent-short h =
       let e = roll-length S acc in
       let t = said-short {v = accepted} (needed S) (length before) (length (S .tracks)) refl h in
-      let q : r ≡ refused 12 (29 * length (rollOf S)) = rw e (answer ∙ t) in
+      let q : r ≡ refused 12 (rowWidth * length (rollOf S)) = rw e (answer ∙ t) in
       subst (Outcome (rollOf S) before exit) (sym q) (too-short (rw e h) (buffer ∙ kept (rollBytes (rollOf S)) before t))
 
-  lent-long : 29 * length (S .tracks) ≤ length before → Outcome (rollOf S) before exit r
+  lent-long : rowWidth * length (S .tracks) ≤ length before → Outcome (rollOf S) before exit r
   lent-long h =
       let e = roll-length S acc in
       let t = said-given {v = accepted} (needed S) (length before) (length (S .tracks)) refl h in
@@ -64,19 +64,19 @@ module _ (S : Listing) (acc : Accepted S) (before exit : List ℕ) (r : Returned
       subst (Outcome (rollOf S) before exit) (sym q) (written (rw e h) (buffer ∙ x))
 
   outcome : Outcome (rollOf S) before exit r
-  outcome = go (ltb (length before) (29 * length (S .tracks))) refl
+  outcome = go (ltb (length before) (rowWidth * length (S .tracks))) refl
     where
-      go : (b : Bool) → ltb (length before) (29 * length (S .tracks)) ≡ b → Outcome (rollOf S) before exit r
-      go true e = lent-short (ltb-true (length before) (29 * length (S .tracks)) e)
-      go false e = lent-long (ltb-false (length before) (29 * length (S .tracks)) e)
+      go : (b : Bool) → ltb (length before) (rowWidth * length (S .tracks)) ≡ b → Outcome (rollOf S) before exit r
+      go true e = lent-short (ltb-true (length before) (rowWidth * length (S .tracks)) e)
+      go false e = lent-long (ltb-false (length before) (rowWidth * length (S .tracks)) e)
 
 -- the rows stand at the buffer's start
-front : {roll : List Row} {before exit : List ℕ} {r : Returned} → Outcome roll before exit r → 29 * length roll ≤ length before → take (29 * length roll) exit ≡ rollBytes roll
+front : {roll : List Row} {before exit : List ℕ} {r : Returned} → Outcome roll before exit r → rowWidth * length roll ≤ length before → take (rowWidth * length roll) exit ≡ rollBytes roll
 front (too-short h e) k = absurd (omega arith)
 front {roll} {before} (written h e) k =
-    ap (take (29 * length roll)) e
-    ∙ ap (λ (n : ℕ). take n (rollBytes roll ++ drop (29 * length roll) before)) (sym (roll-bytes-length roll))
-    ∙ take-append-seam (rollBytes roll) (drop (29 * length roll) before)
+    ap (take (rowWidth * length roll)) e
+    ∙ ap (λ (n : ℕ). take n (rollBytes roll ++ drop (rowWidth * length roll) before)) (sym (roll-bytes-length roll))
+    ∙ take-append-seam (rollBytes roll) (drop (rowWidth * length roll) before)
 
 -- ---- a sheet in any order
 

@@ -11,6 +11,7 @@ use Rattle.sheet.specs.Scan.{verdictOf, commandsOf}
 use Rattle.sheet.proofs.Decoded.{accepted-fits}
 use Rattle.sheet.proofs.RoundTrip.{order-verdict}
 use Rattle.sheet.specs.declared.Answer.{Answer}
+use Rattle.rule.specs.RowBytes.{rowWidth}
 use Rattle.plain_run.specs.Rolled.{Rolls}
 use Rattle.grid_run.specs.declared.GridRolled.{GridRolled}
 use Rattle.grid_run.specs.GridRolled.{GridRolls}
@@ -34,7 +35,7 @@ module _ (e : AtEntry) (b : AllBytes (e .first)) (b′ : AllBytes (e .second)) {
             let d = demand-bytes (e .first) b ok in
             let h = subst (λ (s : List ℕ). Rolls (verdictOf s) (listing (commandsOf s)) (e .plain) plain p) (o .first-whole) by-plain in
             let h′ = subst (λ (s : List ℕ). GridRolls (verdictOf s) (listing (commandsOf s)) (e .figure) (e .grid) grid r) (o .second-whole) by-grid in
-            let n = ap (λ (m : ℕ). 29 * m) (d .one-each) in
+            let n = ap (λ (m : ℕ). rowWidth * m) (d .one-each) in
             subst (λ (m : ℕ). take m plain ≡ take m grid) n
             (d .equal _ _ _ _ (e .figure) (in-bytes l (Permᴰ·refl l)) (in-bytes k (o .order)) f (e .plain) plain (e .grid) grid p r h h′ (rw (d .one-each) long) (rw (d .one-each) long′));
       }

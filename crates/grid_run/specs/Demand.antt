@@ -15,7 +15,7 @@ use Rattle.sheet.specs.Returned.{Returned, accepted, gives, refused}
 use Rattle.sheet.specs.Scan.{verdictOf, commandsOf}
 use Rattle.rule.specs.declared.Row.{Row}
 use Rattle.rule.specs.Roll.{RollOf}
-use Rattle.rule.specs.RowBytes.{rollBytes}
+use Rattle.rule.specs.RowBytes.{rollBytes, rowWidth}
 use Rattle.rule.specs.Rows.{timeOf, MeetsRows}
 use Rattle.cells.specs.declared.Cell.{Cell}
 use Rattle.cells.specs.Grid.{Figure, side}
@@ -37,8 +37,8 @@ pub data Given (l : List Command) : Returned → Listing → Type 0 where
 
 -- 12 alone can refuse a run (SHEETS 10.1), and then nothing is written; else the roll's bytes are written, and nothing behind them (SHEETS 3.10)
 pub data Outcome (roll : List Row) (before exit : List ℕ) : Returned → Type 0 where
-  too-short : length before < 29 * length roll → exit ≡ before → Outcome roll before exit (refused 12 (29 * length roll))
-  written : 29 * length roll ≤ length before → exit ≡ rollBytes roll ++ drop (29 * length roll) before → Outcome roll before exit (gives (length roll))
+  too-short : length before < rowWidth * length roll → exit ≡ before → Outcome roll before exit (refused 12 (rowWidth * length roll))
+  written : rowWidth * length roll ≤ length before → exit ≡ rollBytes roll ++ drop (rowWidth * length roll) before → Outcome roll before exit (gives (length roll))
 
 -- the count beside the rows (SHEETS 6.9)
 abbrev pub Reports : ℕ → GridRolled → Type 0
@@ -69,4 +69,4 @@ pub record Demand3 (l : List Command) : Type 0 where
   pub by-grid : (v : Returned) (S : Listing) (g : ℕ) → Given l v S → Figure g → (before exit : List ℕ) (r : GridRolled) → GridRolls v S g before exit r → Outcome roll before exit (gridRolled r .returned) × Reports (cellsEntered (listing l) g) r
   -- one and the same roll is written (SHEETS 10.1): any order by the plain run, any order and any figure by the grid run
   pub equal : (v w : Returned) (S T : Listing) (g : ℕ) → Given l v S → Given l w T → Figure g → (plain plain′ grid grid′ : List ℕ) (p : Answer) (r : GridRolled) →
-      Rolls v S plain plain′ p → GridRolls w T g grid grid′ r → 29 * length roll ≤ length plain → 29 * length roll ≤ length grid → take (29 * length roll) plain′ ≡ take (29 * length roll) grid′
+      Rolls v S plain plain′ p → GridRolls w T g grid grid′ r → rowWidth * length roll ≤ length plain → rowWidth * length roll ≤ length grid → take (rowWidth * length roll) plain′ ≡ take (rowWidth * length roll) grid′

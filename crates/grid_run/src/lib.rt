@@ -9,6 +9,8 @@ ghost use Rattle.grid_run.specs.GridRolled.{GridRolls};
 ghost use Rattle.grid_run.specs.Exchanged.{Exchanges};
 pub use cells::is_figure;
 use sheet::Answer;
+use sheet::GRID_FIGURE;
+use sheet::OUTPUT_TOO_SHORT;
 use sheet::Sheet;
 use sheet::Verdict;
 
@@ -30,12 +32,12 @@ fn rows(sheet: Sheet, g: u64, out: &mut [u8]) -> GridRolled
     ensures { λ r. ⌜ GridRolls accepted (handedIn sheet) g (now (out .entry)) (now (out .exit)) r ⌝ }
 {
     if !is_figure(g) {
-        return GridRolled::Refused(13, g as usize);
+        return GridRolled::Refused(GRID_FIGURE, g as usize);
     }
     let n = sheet.ntracks;
-    let needed = 29 * n;
+    let needed = row::WIDTH * n;
     if out.len() < needed {
-        return GridRolled::Refused(12, needed);
+        return GridRolled::Refused(OUTPUT_TOO_SHORT, needed);
     }
     let cells = grid::roll(sheet, g, out);
     GridRolled::Rows {

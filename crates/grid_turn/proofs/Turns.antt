@@ -11,7 +11,7 @@ use Rattle.sheet.specs.Listing.{Listing}
 use Rattle.rule.specs.declared.Ending.{Ending}
 use Rattle.rule.specs.declared.Ending.the-variants.{ByWall, Edge}
 use Rattle.rule.specs.declared.Row.{Row}
-use Rattle.rule.specs.RowBytes.{rowBytes}
+use Rattle.rule.specs.RowBytes.{rowBytes, rowWidth}
 use Rattle.row.specs.RowAt.{rowAt}
 use Rattle.causes.specs.Cause.{tipAt}
 use Rattle.ending.specs.Ended.{EndingOf, strikes, leaves, nextRow}
@@ -125,7 +125,7 @@ module _ {S : Listing} {g k : ℕ} {t q m ms : List ℕ} (h : Swept (Going S g k
             turn-ended : tips.Room t′ → Queue q′ → Swept (Turned S g k w (Rows k′)) t′ q′ m ms × Wrote S k out (Rows k′) out′
             turn-ended room queue = (
               record { tips-room = room; queue = queue; marks-room = h .marks-room; linked = h .linked; holds = happened onward },
-              one-row (ap Rows n) (f .written ∙ ap (λ (r : Row). sets out (29 * k) (rowBytes r)) row-is),
+              one-row (ap Rows n) (f .written ∙ ap (λ (r : Row). sets out (rowWidth * k) (rowBytes r)) row-is),
             )
 
       module _ {x : ℕ} (c : e ≡ event.Wall x) where

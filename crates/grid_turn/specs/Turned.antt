@@ -9,7 +9,7 @@ use lib.Seq.{sets}
 use Rattle.exact.specs.Time.{Time}
 use Rattle.sheet.specs.declared.Track.{Track}
 use Rattle.sheet.specs.Listing.{Listing}
-use Rattle.rule.specs.RowBytes.{rowBytes}
+use Rattle.rule.specs.RowBytes.{rowBytes, rowWidth}
 use Rattle.rule.specs.Rows.{timeOf}
 use Rattle.rule.specs.Selection.{rollOf}
 use Rattle.causes.specs.Cause.{tipAt}
@@ -29,7 +29,7 @@ use Rattle.grid_turn.specs.declared.Outcome.the-variants.{Rows, Over}
 -- the row after the first k is written, or none
 pub data Wrote (S : Listing) (k : ℕ) (out : List ℕ) (r : Outcome) (out′ : List ℕ) : Type 0 where
   no-row : (r ≡ Over) ⊎ (r ≡ Rows k) → out′ ≡ out → Wrote S k out r out′
-  one-row : r ≡ Rows (k + 1) → out′ ≡ sets out (29 * k) (rowBytes (nextRow S k)) → Wrote S k out r out′
+  one-row : r ≡ Rows (k + 1) → out′ ≡ sets out (rowWidth * k) (rowBytes (nextRow S k)) → Wrote S k out r out′
 
 -- an event of tip a left the queue at the time τ: where a cell is entered, that is when the trace of a, to its exact end, enters it (SHEETS 6.4, 6.8)
 abbrev pub InTime : Listing → ℕ → Track → Event → Time → Type 0

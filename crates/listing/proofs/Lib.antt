@@ -5,6 +5,5 @@ pub mod Rolling
 pub mod Outcome
 pub mod Copying
 pub mod Picking
-pub mod Read
 pub mod TheListing
 pub mod Worked

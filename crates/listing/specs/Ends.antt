@@ -5,13 +5,13 @@ use Prim.Native.Nat.{ℕ, zero, suc, _+_}
 use lib.Dec.{eqb}
 use Rattle.exact.specs.declared.Fraction.{Fraction}
 use Rattle.exact.specs.Time.{Time, fraction}
-use Rattle.layout.specs.Bytes.{leOf}
+use Rattle.rule.specs.RowBytes.{rowWidth}
+use Rattle.row.specs.Stored.{idFrom, timeFrom}
 
 -- from place `at` on, of n rows: the first with this id
 unfoldable pub endOf : ℕ → List ℕ → ℕ → ℕ → Fraction
 endOf zero rows at id = record { num = 0; den = 1 }
-endOf (suc n) rows at id =
-    cond (eqb (leOf 2 rows at) id) (record { num = leOf 8 rows (at + 5); den = leOf 8 rows (at + 13) }) (endOf n rows (at + 29) id)
+endOf (suc n) rows at id = cond (eqb (idFrom rows at) id) (timeFrom rows at) (endOf n rows (at + rowWidth) id)
 
 abbrev pub endTime : ℕ → List ℕ → ℕ → Time
 endTime n rows id = fraction (endOf n rows 0 id .num) (endOf n rows 0 id .den)

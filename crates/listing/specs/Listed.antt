@@ -22,6 +22,10 @@ unfoldable pub idBytes : List ℕ → List ℕ
 idBytes [] = []
 idBytes (i ∷ l) = leBytes 2 i ++ idBytes l
 
+-- how many bytes the longest listing has, that of 256 tracks
+abbrev pub longestListing : ℕ
+longestListing = 256 * 2
+
 -- 13, then 14 where the cell is not of the grid (SHEETS 3.1, 3.8)
 unfoldable pub cellCheck : ℕ → ℕ → ℕ → Returned
 cellCheck g column row = andThen (figureCheck g) (cond (ltb column g && ltb row g) accepted (refused 14 0))

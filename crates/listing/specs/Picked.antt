@@ -7,25 +7,17 @@ use Rattle.exact.specs.Small.{Small}
 use Rattle.exact.specs.Time.{Time}
 use Rattle.sheet.specs.declared.Sheet.{Sheet}
 use Rattle.sheet.specs.declared.Track.{Track}
-use Rattle.sheet.specs.Accepted.{Accepted}
-use Rattle.sheet.specs.HandedIn.{handedIn, checkOf}
-use Rattle.sheet.specs.Returned.{accepted}
+use Rattle.rule.specs.RowBytes.{rowWidth}
+use Rattle.records.specs.Records.{Handed}
 use Rattle.cells.specs.declared.Cell.{Cell}
 use Rattle.listing.specs.CellIds.{CellIds}
 use Rattle.listing.specs.Ends.{endOf}
 use Rattle.listing.specs.Listed.{idBytes}
 
--- a sheet that was accepted
-pub record Prepared (s : Sheet) : Type 0 where
-  pub checked : checkOf s ≡ accepted
-  pub is-accepted : Accepted (handedIn s)
-  pub tracks-long : length (s .tracks) ≡ 256
-  pub tracks-in : s .ntracks ≤ 256
-
--- … and whose rows are there, with times that can be compared
+-- a sheet that was accepted and whose rows are there, with times that can be compared
 pub record RollIn (s : Sheet) (rows : List ℕ) : Type 0 where
-  pub prepared : Prepared s
-  pub rows-long : 29 * s .ntracks ≤ length rows
+  pub handed : Handed s
+  pub rows-long : rowWidth * s .ntracks ≤ length rows
   pub small : (i : ℕ) → Small (endOf (s .ntracks) rows 0 i .num) (endOf (s .ntracks) rows 0 i .den)
 
 -- the buffer starts with the n ids of those of some tracks that have a point in the cell

@@ -11,9 +11,9 @@ use Rattle.sheet.specs.Lent.{andThen}
 use Rattle.sheet.specs.Returned.{accepted, gives}
 use Rattle.sheet.proofs.Lent.{said-given, put}
 use Rattle.rule.specs.declared.Row.{Row}
-use Rattle.stored.specs.declared.Stored.{Stored}
-use Rattle.stored.specs.declared.Stored.the-variants.{Found, Nothing}
-use Rattle.stored.specs.Stored.{rowIn, rowsIn}
+use Rattle.row.specs.declared.Stored.{Stored}
+use Rattle.row.specs.declared.Stored.the-variants.{Found, Nothing}
+use Rattle.row.specs.Stored.{rowIn, rowsIn}
 use Rattle.sheet.specs.declared.Answer.{Answer}
 use Rattle.sheet.specs.declared.Answer.the-variants.{Gives, Refused}
 use Rattle.text.specs.Lines.{lineOf}

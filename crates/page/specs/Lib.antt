@@ -1,2 +1,3 @@
 pub mod Behind
 pub mod Rows
+pub mod Answer

@@ -1,15 +1,23 @@
-// Lines put one behind the other into a buffer, for the programs that print: each function gives the place where its text ends.
+// Lines put one behind the other into a buffer, for the programs that print (SHEETS 9): each function gives the place where its text ends.
+// `answer` is all that is printed for a sheet.
 ghost use Prim.Native.Nat.{_+_, _*_, _≤_, _<_};
 ghost use mathlib.Core.Path.{_≡_};
-ghost use lib.ListN.{length};
+ghost use lib.ListN.{length, take};
+ghost use Rattle.sheet.specs.Listing.{listing};
+ghost use Rattle.sheet.specs.Scan.{verdictOf, commandsOf};
 ghost use Rattle.rule.specs.RowBytes.{RowFits};
-ghost use Rattle.stored.specs.Stored.{rowsIn};
-ghost use Rattle.text.specs.Lines.{lineOf, headOf, refusedOf, stillOf};
+ghost use Rattle.row.specs.Stored.{rowsIn};
+ghost use Rattle.text.specs.Lines.{lineOf, headOf, refusedOf, stillOf, longestLine, longestHead, longestRefusal, longestStill};
 ghost use Rattle.page.specs.Behind.{Behind, lengthIn};
 ghost use Rattle.page.specs.Rows.{linesOf};
+ghost use Rattle.page.specs.Answer.{answerOf, answerRoom};
+use grid_run::GridRolled;
+use row::Stored;
 use rule::Row;
 use sheet::Answer;
-use stored::Stored;
+
+// Room for every answer: the head, and a line for each of 256 rows, have 37,687 bytes at most.
+pub const ANSWER_ROOM: usize = 40960;
 
 // Where a text ends that was written at a place.
 fn end_of(at: usize, t: Answer) -> usize
@@ -22,37 +30,37 @@ fn end_of(at: usize, t: Answer) -> usize
     }
 }
 
-// The first line of a roll: 55 bytes at most.
+// The first line of a roll.
 pub fn put_head(tracks: usize, cells: u64, out: &mut [u8]) -> usize
-    requires { ⌜ 55 ≤ length (now out) ⌝ }
-    ensures { λ r. ⌜ Behind (headOf tracks cells) 0 (now (out .entry)) r (now (out .exit)) × (r ≤ 55) ⌝ }
+    requires { ⌜ longestHead ≤ length (now out) ⌝ }
+    ensures { λ r. ⌜ Behind (headOf tracks cells) 0 (now (out .entry)) r (now (out .exit)) × (r ≤ longestHead) ⌝ }
 {
     let t = text::head(tracks as u64, cells, out);
     end_of(0, t)
 }
 
-// A refusal's line: 50 bytes at most.
+// A refusal's line.
 pub fn put_refusal(number: u8, place: usize, out: &mut [u8]) -> usize
-    requires { ⌜ 50 ≤ length (now out) ⌝ }
+    requires { ⌜ longestRefusal ≤ length (now out) ⌝ }
     ensures { λ r. ⌜ Behind (refusedOf number place) 0 (now (out .entry)) r (now (out .exit)) ⌝ }
 {
     let t = text::refusal(number, place, out);
     end_of(0, t)
 }
 
-// The line of the number still running: 35 bytes at most.
+// The line of the number still running.
 pub fn put_running(tracks: usize, at: usize, out: &mut [u8]) -> usize
-    requires { ⌜ at + 35 ≤ length (now out) ⌝ }
+    requires { ⌜ at + longestStill ≤ length (now out) ⌝ }
     ensures { λ r. ⌜ Behind (stillOf tracks) at (now (out .entry)) r (now (out .exit)) ⌝ }
 {
     let t = text::still_running(tracks as u64, &mut out[at..]);
     end_of(at, t)
 }
 
-// No row's line is longer than 147 bytes.
+// A row's line.
 fn put_row(row: Row, at: usize, out: &mut [u8]) -> usize
-    requires { ⌜ RowFits row × (at + 147 ≤ length (now out)) ⌝ }
-    ensures { λ r. ⌜ Behind (lineOf row) at (now (out .entry)) r (now (out .exit)) × (r ≤ at + 147) ⌝ }
+    requires { ⌜ RowFits row × (at + longestLine ≤ length (now out)) ⌝ }
+    ensures { λ r. ⌜ Behind (lineOf row) at (now (out .entry)) r (now (out .exit)) × (r ≤ at + longestLine) ⌝ }
 {
     let t = text::line(row, &mut out[at..]);
     end_of(at, t)
@@ -60,13 +68,13 @@ fn put_row(row: Row, at: usize, out: &mut [u8]) -> usize
 
 // The lines of the rows at the first n places of a buffer.
 pub fn put_rows(rows: &[u8], n: usize, at: usize, out: &mut [u8]) -> usize
-    requires { ⌜ at + 147 * n ≤ length (now out) ⌝ }
-    ensures { λ r. ⌜ Behind (linesOf (rowsIn (now (rows .entry)) n)) at (now (out .entry)) r (now (out .exit)) × (r ≤ at + 147 * n) ⌝ }
+    requires { ⌜ at + longestLine * n ≤ length (now out) ⌝ }
+    ensures { λ r. ⌜ Behind (linesOf (rowsIn (now (rows .entry)) n)) at (now (out .entry)) r (now (out .exit)) × (r ≤ at + longestLine * n) ⌝ }
 {
     let mut end = at;
     let mut k = 0;
     while k < n {
-        let stored = stored::row_at(rows, k);
+        let stored = row::row_at(rows, k);
         k += 1;
         let Stored::Found(row) = stored else {
             continue;
@@ -74,4 +82,20 @@ pub fn put_rows(rows: &[u8], n: usize, at: usize, out: &mut [u8]) -> usize
         end = put_row(row, end, out);
     }
     end
+}
+
+// The text for a sheet: the head with the cells that the grid run of figure 8 enters, and its rows' lines (SHEETS 9.1); or its refusal (SHEETS 9.2).
+pub fn answer(sheet: &[u8], out: &mut [u8]) -> usize
+    requires { ⌜ answerRoom ≤ length (now out) ⌝ }
+    ensures { λ r. ⌜ (take r (now (out .exit)) ≡ answerOf (verdictOf (now (sheet .entry))) (listing (commandsOf (now (sheet .entry))))) × (r ≤ length (now (out .exit))) ⌝ }
+{
+    let mut rows = [0u8; row::LONGEST_ROLL];
+    let rolled = grid_run::grid_roll_bytes(sheet, 8, &mut rows);
+    match rolled {
+        GridRolled::Rows { rows: n, cells } => {
+            let at = put_head(n, cells, out);
+            put_rows(&rows, n, at, out)
+        }
+        GridRolled::Refused(number, place) => put_refusal(number, place, out),
+    }
 }

@@ -12,6 +12,7 @@ use Rattle.sheet.specs.Listing.{Listing}
 use Rattle.sheet.specs.declared.Sheet.{Sheet}
 use Rattle.records.specs.Records.{Handed}
 use Rattle.rule.proofs.Turn.{progress-start}
+use Rattle.rule.specs.RowBytes.{rowWidth}
 use Rattle.causes.specs.declared.Cause.{Cause}
 use Rattle.causes.specs.Cause.{tipAt}
 use Rattle.number_tables.proofs.Blank.{blank}
@@ -51,10 +52,10 @@ begin-none =
     }
 
 -- the rows of a sheet that was filed have room where its tracks' have
-pub room-for : {s : Sheet} → Handed s → {S : Listing} → S ≡ handedIn s → {n : ℕ} → 29 * s .ntracks ≤ n → 29 * length (S .tracks) ≤ n
+pub room-for : {s : Sheet} → Handed s → {S : Listing} → S ≡ handedIn s → {n : ℕ} → rowWidth * s .ntracks ≤ n → rowWidth * length (S .tracks) ≤ n
 room-for {s} h {S} e {n} r =
     let x : length (handedIn s .tracks) ≡ s .ntracks = length-take-le (s .ntracks) (s .tracks ++ (noTrack ∷ [])) (simp length-append (omega (arith, h .tracks-long, h .tracks-in))) in
-    subst (λ (z : Listing). 29 * length (z .tracks) ≤ n) (sym e) (omega (arith, x, r))
+    subst (λ (z : Listing). rowWidth * length (z .tracks) ≤ n) (sym e) (omega (arith, x, r))
 
 -- ---- one tip more
 

@@ -17,7 +17,7 @@ use Rattle.rule.specs.declared.Row.{Row}
 use Rattle.rule.specs.declared.Ending.{Ending}
 use Rattle.rule.specs.Causes.{by-side, Cand, Below, rowOf}
 use Rattle.rule.specs.Contact.{when}
-use Rattle.rule.specs.RowBytes.{rowBytes}
+use Rattle.rule.specs.RowBytes.{rowBytes, rowWidth}
 use Rattle.rule.specs.Selection.{rollOf}
 use Rattle.rule.specs.WallTime.{wallTime}
 use Rattle.rule.proofs.Known.{below-le}
@@ -114,8 +114,8 @@ module _ {S : Listing} (acc : Accepted S) {ts new : List Tip} {k i : ℕ} (st : 
       }
 
   module _ {e : Ending} (x : EndingOf (tipIn new i .best) e) {out out′ : List ℕ} {t : List Tip} (y : Finished S i k e new out t out′) where
-    pub turn-row : out′ ≡ sets out (29 * k) (rowBytes (nextRow S k))
-    turn-row = y .written ∙ ap (λ (r : Row). sets out (29 * k) (rowBytes r)) (row-is S (tipAt S i) stands x ∙ sym (row-next acc (st .out) progress))
+    pub turn-row : out′ ≡ sets out (rowWidth * k) (rowBytes (nextRow S k))
+    turn-row = y .written ∙ ap (λ (r : Row). sets out (rowWidth * k) (rowBytes r)) (row-is S (tipAt S i) stands x ∙ sym (row-next acc (st .out) progress))
 
     -- ---- the state
 
@@ -154,6 +154,6 @@ state-as {S} {ts = ts} e s = subst (λ (z : ℕ). State S z ts) (sym e) s
 
 -- the rows that are written, with one more
 pub rows-then :
-    (S : Listing) (k : ℕ) {m : ℕ} {ts ts′ : List Tip} {before after more : List ℕ} → State S k ts → State S (k + 1) ts′ → m ≡ k + 1 → 29 * k + 29 ≤ length before
-    → more ≡ sets after (29 * k) (rowBytes (nextRow S k)) → Written (take k (rollOf S)) before after → Written (take m (rollOf S)) before more
+    (S : Listing) (k : ℕ) {m : ℕ} {ts ts′ : List Tip} {before after more : List ℕ} → State S k ts → State S (k + 1) ts′ → m ≡ k + 1 → rowWidth * k + 29 ≤ length before
+    → more ≡ sets after (rowWidth * k) (rowBytes (nextRow S k)) → Written (take k (rollOf S)) before after → Written (take m (rollOf S)) before more
 rows-then S k {before = before} {more = more} s t e h x w = subst (λ (z : ℕ). Written (take z (rollOf S)) before more) (sym e) (written-next S k (s .out) (t .out) h x w)

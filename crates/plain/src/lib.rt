@@ -5,7 +5,7 @@ ghost use lib.ListN.{length};
 ghost use lib.Seq.{sets};
 ghost use Rattle.sheet.specs.HandedIn.{handedIn};
 ghost use Rattle.records.specs.Records.{Handed, Recorded, sheetIn};
-ghost use Rattle.rule.specs.RowBytes.{rowBytes};
+ghost use Rattle.rule.specs.RowBytes.{rowBytes, rowWidth};
 ghost use Rattle.rule.specs.Selection.{rollOf};
 ghost use Rattle.row.specs.Written.{Written};
 ghost use Rattle.causes.specs.Cause.{tipAt};
@@ -132,7 +132,7 @@ fn refresh(records: &[u16], known: &[u8], tips: &mut [u64])
 // The next row, the k-th, goes to its place.
 fn take_turn(records: &[u16], known: &[u8], tips: &mut [u64], k: usize, out: &mut [u8]) -> usize
     requires { ⌜ Recorded (now records) × AllKnown (now known) × Room (now tips) × State (sheetIn (now records)) k (tipsIn (now tips)) × (k < length (sheetIn (now records) .tracks)) × RoomFor (sheetIn (now records)) (now out) ⌝ }
-    ensures { λ r. ⌜ (r ≡ k + 1) × State (sheetIn (now (records .entry))) (k + 1) (tipsIn (now (tips .exit))) × (now (out .exit) ≡ sets (now (out .entry)) (29 * k) (rowBytes (nextRow (sheetIn (now (records .entry))) k))) ⌝ }
+    ensures { λ r. ⌜ (r ≡ k + 1) × State (sheetIn (now (records .entry))) (k + 1) (tipsIn (now (tips .exit))) × (now (out .exit) ≡ sets (now (out .entry)) (rowWidth * k) (rowBytes (nextRow (sheetIn (now (records .entry))) k))) ⌝ }
 {
     refresh(records, known, tips);
     let i = pick(records, tips);
@@ -165,7 +165,7 @@ fn roll_of(records: &[u16], out: &mut [u8])
 
 // The roll of an accepted sheet.
 pub fn roll(sheet: Sheet, out: &mut [u8])
-    requires { ⌜ Handed sheet × (29 * sheet .ntracks ≤ length (now out)) ⌝ }
+    requires { ⌜ Handed sheet × (rowWidth * sheet .ntracks ≤ length (now out)) ⌝ }
     ensures { λ r. ⌜ Written (rollOf (handedIn sheet)) (now (out .entry)) (now (out .exit)) ⌝ }
 {
     let mut records = [0u16; records::LENGTH];

@@ -10,7 +10,7 @@ use Rattle.sheet.specs.Returned.{Returned, accepted, refused}
 use Rattle.sheet.specs.HandedIn.{handedIn, noTrack}
 use Rattle.sheet.specs.declared.Sheet.{Sheet}
 use Rattle.sheet.proofs.Lent as ending
-use Rattle.rule.specs.RowBytes.{rollBytes}
+use Rattle.rule.specs.RowBytes.{rollBytes, rowWidth}
 use Rattle.rule.specs.Selection.{rollOf}
 use Rattle.row.specs.Written.{Written}
 use Rattle.records.specs.Records.{Handed}
@@ -36,13 +36,13 @@ pub tracks-count : {s : Sheet} → Handed s → length (handedIn s .tracks) ≡ 
 tracks-count {s} r = length-take-le (s .ntracks) (s .tracks ++ (noTrack ∷ [])) (simp length-append (omega (arith, r .tracks-long, r .tracks-in)))
 
 module _ {s : Sheet} (r : Handed s) (before : List ℕ) where
-  pub too-short : length before < 29 * s .ntracks → Rolls accepted (handedIn s) before before (Refused 12 (29 * s .ntracks))
+  pub too-short : length before < rowWidth * s .ntracks → Rolls accepted (handedIn s) before before (Refused 12 (rowWidth * s .ntracks))
   too-short h =
       let S = handedIn s in
-      let (a, b) = ending.too-short {v = accepted} (rollBytes (rollOf S)) before (length (S .tracks)) refl (ap (λ (n : ℕ). 29 * n) (tracks-count r)) h in
+      let (a, b) = ending.too-short {v = accepted} (rollBytes (rollOf S)) before (length (S .tracks)) refl (ap (λ (n : ℕ). rowWidth * n) (tracks-count r)) h in
       record { answer = a; buffer = b }
 
-  pub all-rows : {exit : List ℕ} → 29 * s .ntracks ≤ length before → Written (rollOf (handedIn s)) before exit → Rolls accepted (handedIn s) before exit (Gives (s .ntracks))
+  pub all-rows : {exit : List ℕ} → rowWidth * s .ntracks ≤ length before → Written (rollOf (handedIn s)) before exit → Rolls accepted (handedIn s) before exit (Gives (s .ntracks))
   all-rows h w =
       let S = handedIn s in
       let g = w .is ∙ ap (λ (n : ℕ). rollBytes (rollOf S) ++ drop n before) (sym (roll-bytes-length (rollOf S))) in

@@ -12,7 +12,7 @@ use Rattle.sheet.proofs.Lent.{said-given, put}
 use Rattle.sheet.proofs.RoundTrip.{accepted-records}
 use Rattle.rule.specs.declared.Row.{Row}
 use Rattle.rule.specs.Roll.{RollOf}
-use Rattle.rule.specs.RowBytes.{rollBytes}
+use Rattle.rule.specs.RowBytes.{rollBytes, rowWidth}
 use Rattle.rule.specs.Selection.{rollOf}
 use Rattle.rule.proofs.Existence.{roll-of, roll-is, roll-length}
 use Rattle.rule.proofs.RowBytes.{roll-bytes-length}
@@ -24,7 +24,7 @@ pub record TheRoll (S : Listing) (before exit : List ℕ) : Type 0 where
   pub rows : List Row
   pub is-roll : RollOf S rows
   pub no-other : (l : List Row) → RollOf S l → l ≡ rows
-  pub written : exit ≡ rollBytes rows ++ drop (29 * length (S .tracks)) before
+  pub written : exit ≡ rollBytes rows ++ drop (rowWidth * length (S .tracks)) before
 
 pub the-roll : (S : Listing) (before exit : List ℕ) (r : Answer) → Accepted S → Rolls accepted S before exit r → needed S ≤ length before → TheRoll S before exit
 the-roll S before exit r acc h room =
@@ -33,7 +33,7 @@ the-roll S before exit r acc h room =
       is-roll = roll-of S acc;
       no-other = roll-is S acc;
       written =
-          let n = roll-bytes-length (rollOf S) ∙ ap (λ (k : ℕ). 29 * k) (roll-length S acc) in
+          let n = roll-bytes-length (rollOf S) ∙ ap (λ (k : ℕ). rowWidth * k) (roll-length S acc) in
           h .buffer ∙ put (rollBytes (rollOf S)) before (said-given {v = accepted} (needed S) (length before) (length (S .tracks)) refl room) ∙ ap (λ (k : ℕ). rollBytes (rollOf S) ++ drop k before) n;
     }
 

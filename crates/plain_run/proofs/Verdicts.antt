@@ -11,7 +11,7 @@ use Rattle.sheet.specs.Returned.{Returned, accepted, refused}
 use Rattle.sheet.proofs.Decided.{decided}
 use Rattle.sheet.proofs.Lent.{said-given, put, gave, refused-so}
 use Rattle.writer.proofs.Counts.{few}
-use Rattle.rule.specs.RowBytes.{rollBytes}
+use Rattle.rule.specs.RowBytes.{rollBytes, longestRoll}
 use Rattle.rule.specs.Selection.{rollOf}
 use Rattle.sheet.specs.declared.Answer.{Answer}
 use Rattle.sheet.specs.declared.Answer.the-variants.{Gives, Refused}
@@ -34,7 +34,7 @@ module _ (s : Sheet) {before exit : List ℕ} {r : Answer} (w : Rolls (checkOf s
       record { accepts = g .accepts; count = g .count; room = g .room; bytes = w .buffer ∙ put (rollBytes (rollOf S)) before (said-given (needed S) (length before) (length (S .tracks)) (g .accepts) (g .room)) }
 
   -- 256 rows are enough
-  pub handed-refused : {n p : ℕ} → length (s .tracks) ≡ 256 → length (s .walls) ≡ 256 → 7424 ≤ length before → r ≡ Refused n p → checkOf s ≡ refused n p
+  pub handed-refused : {n p : ℕ} → length (s .tracks) ≡ 256 → length (s .walls) ≡ 256 → longestRoll ≤ length before → r ≡ Refused n p → checkOf s ≡ refused n p
   handed-refused t u h q =
       refused-so (needed S) (length before) (length (S .tracks)) (decided (listedForm s))
       (λ ok. omega (arith, few s t u ok .0, h, length-take (s .ntracks) (s .tracks ++ (noTrack ∷ []))))

@@ -6,14 +6,14 @@ use lib.ListN.{length}
 use Rattle.sheet.specs.Lent.{andThen, orShort, after}
 use Rattle.sheet.specs.Listing.{Listing}
 use Rattle.sheet.specs.Returned.{Returned, gives, refused}
-use Rattle.rule.specs.RowBytes.{rollBytes}
+use Rattle.rule.specs.RowBytes.{rollBytes, rowWidth}
 use Rattle.rule.specs.Selection.{rollOf}
 use Rattle.sheet.specs.declared.Answer.{Answer}
 use Rattle.sheet.specs.Answer.{answered}
 
 -- the bytes of a roll (SHEETS 5.6)
 abbrev pub needed : Listing → ℕ
-needed S = 29 * length (S .tracks)
+needed S = rowWidth * length (S .tracks)
 
 -- 12 after what is said of the arguments (SHEETS 3.8); else the number of rows
 abbrev pub rollReturns : Returned → Listing → ℕ → Returned

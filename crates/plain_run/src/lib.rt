@@ -6,6 +6,7 @@ ghost use Rattle.sheet.specs.HandedIn.{handedIn, checkOf};
 ghost use Rattle.records.specs.Records.{Handed};
 ghost use Rattle.plain_run.specs.Rolled.{Rolls};
 use sheet::Answer;
+use sheet::OUTPUT_TOO_SHORT;
 use sheet::Sheet;
 use sheet::Verdict;
 
@@ -15,9 +16,9 @@ fn rows(sheet: Sheet, out: &mut [u8]) -> Answer
     ensures { λ r. ⌜ Rolls accepted (handedIn sheet) (now (out .entry)) (now (out .exit)) r ⌝ }
 {
     let n = sheet.ntracks;
-    let needed = 29 * n;
+    let needed = row::WIDTH * n;
     if out.len() < needed {
-        return Answer::Refused(12, needed);
+        return Answer::Refused(OUTPUT_TOO_SHORT, needed);
     }
     plain::roll(sheet, out);
     Answer::Gives(n)

@@ -21,7 +21,7 @@ use Rattle.sheet.proofs.Order.{Reordered, reordered, accepted-reordered}
 use Rattle.sheet.proofs.RoundTrip.{AllFit, order-verdict, read-back, listed, handed-back}
 use Rattle.reader.specs.Reading.{ifAccepted, recordsOf}
 use Rattle.rule.specs.declared.Row.{Row}
-use Rattle.rule.specs.RowBytes.{rollBytes}
+use Rattle.rule.specs.RowBytes.{rollBytes, rowWidth}
 use Rattle.rule.specs.Selection.{rollOf}
 use Rattle.rule.proofs.Existence.{roll-of}
 use Rattle.rule.proofs.OrderFree.{roll-order}
@@ -40,8 +40,8 @@ use Rattle.promises.proofs.Sheets.{commands-fit, scanned, checks}
 
 -- ---- what an answer adds to the screen
 
-adds-rows : (x : Answer) (k : ℕ) (exit : List ℕ) → answered x ≡ gives k → adds x exit ≡ take (29 * k) exit
-adds-rows (Gives n) k exit e = let q : n ≡ k = cc in ap (λ (j : ℕ). take (29 * j) exit) q
+adds-rows : (x : Answer) (k : ℕ) (exit : List ℕ) → answered x ≡ gives k → adds x exit ≡ take (rowWidth * k) exit
+adds-rows (Gives n) k exit e = let q : n ≡ k = cc in ap (λ (j : ℕ). take (rowWidth * j) exit) q
 adds-rows (Refused n p) k exit e = absurd (let z : _≡_ {A = ℕ} 0 1 = cc in omega arith)
 
 adds-none : (x : Answer) (n p : ℕ) (exit : List ℕ) → answered x ≡ refused n p → adds x exit ≡ []
@@ -54,11 +54,11 @@ module _ (m n room : ℕ) (ks : List Key) where
   abbrev more : ℕ
   more = min n (m - cursor m ks)
 
-  moves : 29 * more ≤ room → cursor m (keys.advance n room ∷ ks) ≡ cursor m ks + more
+  moves : rowWidth * more ≤ room → cursor m (keys.advance n room ∷ ks) ≡ cursor m ks + more
   unfolding cursor
-  moves h = ap (λ (b : Bool). cond b (cursor m ks + more) (cursor m ks)) (le-leb (29 * more) room h)
+  moves h = ap (λ (b : Bool). cond b (cursor m ks + more) (cursor m ks)) (le-leb (rowWidth * more) room h)
 
-  stays : leb (29 * more) room ≡ false → cursor m (keys.advance n room ∷ ks) ≡ cursor m ks
+  stays : leb (rowWidth * more) room ≡ false → cursor m (keys.advance n room ∷ ks) ≡ cursor m ks
   unfolding cursor
   stays e = ap (λ (b : Bool). cond b (cursor m ks + more) (cursor m ks)) e
 
@@ -139,9 +139,9 @@ module _ (l : List Command) (acc : Accepted (listing l)) where
       abbrev k : ℕ
       k = length (nextRows s n)
 
-      with-room : 29 * k ≤ length before → Reached (keys.advance n (length before) ∷ ks) (r .session) (screen ++ adds (r .answer) exit)
+      with-room : rowWidth * k ≤ length before → Reached (keys.advance n (length before) ∷ ks) (r .session) (screen ++ adds (r .answer) exit)
       with-room f =
-          let e = h .answer ∙ said-given (29 * k) (length before) k accepts f in
+          let e = h .answer ∙ said-given (rowWidth * k) (length before) k accepts f in
           let c = next-length n in
           subst (Reached (keys.advance n (length before) ∷ ks) (r .session)) (ap (λ (w : List ℕ). screen ++ w) (sym (adds-rows (r .answer) k exit e)))
           (record {
@@ -152,24 +152,24 @@ module _ (l : List Command) (acc : Accepted (listing l)) where
             place = omega (arith, p .place, moves m n (length before) ks (omega arith));
           })
 
-      without : length before < 29 * k → leb (29 * min n (m - cursor m ks)) (length before) ≡ false → Reached (keys.advance n (length before) ∷ ks) (r .session) (screen ++ adds (r .answer) exit)
+      without : length before < rowWidth * k → leb (rowWidth * min n (m - cursor m ks)) (length before) ≡ false → Reached (keys.advance n (length before) ∷ ks) (r .session) (screen ++ adds (r .answer) exit)
       without f b =
-          let e = h .answer ∙ said-short (29 * k) (length before) k accepts f in
-          subst (Reached (keys.advance n (length before) ∷ ks) (r .session)) (sym (append-nil screen) ∙ ap (λ (w : List ℕ). screen ++ w) (sym (adds-none (r .answer) 12 (29 * k) exit e)))
+          let e = h .answer ∙ said-short (rowWidth * k) (length before) k accepts f in
+          subst (Reached (keys.advance n (length before) ∷ ks) (r .session)) (sym (append-nil screen) ∙ ap (λ (w : List ℕ). screen ++ w) (sym (adds-none (r .answer) 12 (rowWidth * k) exit e)))
           (record {
             T = p .T;
             same = p .same;
             asked = p .asked;
-            steps = not-advanced s screen (p .asked) n before exit r 12 (29 * k) (p .steps) h e;
+            steps = not-advanced s screen (p .asked) n before exit r 12 (rowWidth * k) (p .steps) h e;
             place = p .place ∙ sym (stays m n (length before) ks b);
           })
 
       steps-on : Reached (keys.advance n (length before) ∷ ks) (r .session) (screen ++ adds (r .answer) exit)
-      steps-on = go (leb (29 * min n (m - cursor m ks)) (length before)) refl
+      steps-on = go (leb (rowWidth * min n (m - cursor m ks)) (length before)) refl
         where
-          go : (b : Bool) → leb (29 * min n (m - cursor m ks)) (length before) ≡ b → Reached (keys.advance n (length before) ∷ ks) (r .session) (screen ++ adds (r .answer) exit)
-          go true e = with-room (omega (arith, next-length n, leb-true (29 * min n (m - cursor m ks)) (length before) e))
-          go false e = without (omega (arith, next-length n, leb-false (29 * min n (m - cursor m ks)) (length before) e)) e
+          go : (b : Bool) → leb (rowWidth * min n (m - cursor m ks)) (length before) ≡ b → Reached (keys.advance n (length before) ∷ ks) (r .session) (screen ++ adds (r .answer) exit)
+          go true e = with-room (omega (arith, next-length n, leb-true (rowWidth * min n (m - cursor m ks)) (length before) e))
+          go false e = without (omega (arith, next-length n, leb-false (rowWidth * min n (m - cursor m ks)) (length before) e)) e
 
   -- ---- any keys
 
@@ -187,7 +187,7 @@ module _ (l : List Command) (acc : Accepted (listing l)) where
   same-view : {c : ℕ} {s s′ : Session} {screen screen′ : List ℕ} → View (rollOf S) c s screen → View (rollOf S) c s′ screen′ → SameView s s′ screen screen′
   same-view v w = record { shown = v .shown ∙ sym (w .shown); next = v .next ∙ sym (w .next); running = v .running ∙ sym (w .running) }
 
-  refresh : {ks : List Key} {room : ℕ} {s s′ : Session} {screen screen′ : List ℕ} → Pressed l ks s screen → Pressed l (keys.advance (s .shown) room ∷ []) s′ screen′ → 29 * s .shown ≤ room → SameView s s′ screen screen′
+  refresh : {ks : List Key} {room : ℕ} {s s′ : Session} {screen screen′ : List ℕ} → Pressed l ks s screen → Pressed l (keys.advance (s .shown) room ∷ []) s′ screen′ → rowWidth * s .shown ≤ room → SameView s s′ screen screen′
   unfolding cursor
   refresh {ks} {room} {s} {s′} {screen} {screen′} p q h =
       let x = reached p in

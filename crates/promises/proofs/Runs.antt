@@ -18,7 +18,7 @@ use Rattle.sheet.proofs.Order.{Reordered, reordered}
 use Rattle.sheet.proofs.RoundTrip.{order-verdict, read-back, listed}
 use Rattle.rule.specs.declared.Row.{Row}
 use Rattle.rule.specs.declared.Ending.the-variants.{Edge}
-use Rattle.rule.specs.RowBytes.{rollBytes}
+use Rattle.rule.specs.RowBytes.{rollBytes, rowWidth}
 use Rattle.rule.specs.Selection.{rollOf}
 use Rattle.rule.proofs.Existence.{roll-length}
 use Rattle.rule.proofs.OrderFree.{roll-order}
@@ -28,9 +28,9 @@ use Rattle.cells.specs.Grid.{figureCheck}
 use Rattle.cells.proofs.Figures.{figure-is, figure-checked}
 use Rattle.plain_run.specs.Rolled.{rollReturns}
 use Rattle.grid_run.specs.Demand.{Given, in-bytes, in-records}
-use Rattle.stored.specs.declared.Stored.the-variants.{Found}
-use Rattle.stored.specs.Stored.{rowIn}
-use Rattle.stored.proofs.ReadBack.{row-back}
+use Rattle.row.specs.declared.Stored.the-variants.{Found}
+use Rattle.row.specs.Stored.{rowIn}
+use Rattle.row.proofs.ReadBack.{row-back}
 use Rattle.grid_run.specs.GridRolled.{Reported}
 use Rattle.promises.specs.Runs.{Run, plain, grid, rowCount, Room, Reads, InRoll}
 use Rattle.promises.proofs.Sheets.{commands-fit, scanned}
@@ -75,13 +75,13 @@ module _ (l : List Command) (acc : Accepted (listing l)) where
   pub left : {before exit : List ℕ} {x : Returned} → Run l before exit x → Room l before → (x ≡ gives (rowCount l)) × (exit ≡ rollBytes (rollOf S) ++ drop (length (rollBytes (rollOf S))) before)
   left {before} c h =
       let (p, q) = ran c in
-      let t = said-given {v = accepted} (29 * rowCount l) (length before) (rowCount l) refl h in
+      let t = said-given {v = accepted} (rowWidth * rowCount l) (length before) (rowCount l) refl h in
       (p ∙ t, q ∙ put (rollBytes (rollOf S)) before t)
 
-  pub front : {before exit : List ℕ} {x : Returned} → Run l before exit x → Room l before → take (29 * rowCount l) exit ≡ rollBytes (rollOf S)
+  pub front : {before exit : List ℕ} {x : Returned} → Run l before exit x → Room l before → take (rowWidth * rowCount l) exit ≡ rollBytes (rollOf S)
   front c h =
-      let e = roll-bytes-length (rollOf S) ∙ ap (λ (n : ℕ). 29 * n) (roll-length S acc) in
-      ap (take (29 * rowCount l)) (left c h .1) ∙ take-at (rollBytes (rollOf S)) _ (29 * rowCount l) e
+      let e = roll-bytes-length (rollOf S) ∙ ap (λ (n : ℕ). rowWidth * n) (roll-length S acc) in
+      ap (take (rowWidth * rowCount l)) (left c h .1) ∙ take-at (rollBytes (rollOf S)) _ (rowWidth * rowCount l) e
 
   -- ---- rows read back
 
@@ -107,5 +107,5 @@ module _ (l : List Command) (acc : Accepted (listing l)) where
 
   pub in-roll : (r : Row) → InRoll l r → r ∈ rollOf S
   in-roll r h =
-      let g = gave {v = accepted} (29 * rowCount l) (length (h .before)) (rowCount l) tt (ran (h .ran) .0) in
+      let g = gave {v = accepted} (rowWidth * rowCount l) (length (h .before)) (rowCount l) tt (ran (h .ran) .0) in
       read-in (h .exit) _ (left (h .ran) (g .room) .1) r (subst (λ (n : ℕ). Reads (h .exit) n r) (g .count) (h .reads))

@@ -17,7 +17,7 @@ use Rattle.sheet.specs.Scan.{verdictOf}
 use Rattle.reader.specs.Reading.{recordsOf}
 use Rattle.rule.specs.declared.Row.{Row}
 use Rattle.rule.specs.Roll.{RollOf}
-use Rattle.rule.specs.RowBytes.{rollBytes}
+use Rattle.rule.specs.RowBytes.{rollBytes, rowWidth}
 use Rattle.sheet.specs.declared.Answer.{Answer}
 use Rattle.sheet.specs.declared.Answer.the-variants.{Gives, Refused}
 use Rattle.session.specs.declared.Session.{Session}
@@ -39,7 +39,7 @@ pub data Opened (l : List Command) (r : Begun) : Type 0 where
 
 -- what an advance adds to the screen: the rows that it says it wrote
 abbrev pub adds : Answer → List ℕ → List ℕ
-adds (Gives k) exit = take (29 * k) exit
+adds (Gives k) exit = take (rowWidth * k) exit
 adds (Refused number place) exit = []
 
 -- the session and the screen after some keys, the last key first; each call meets its contract. A reset clears the screen
@@ -56,7 +56,7 @@ pub data Pressed (l : List Command) : List Key → Session → List ℕ → Type
 
 -- past k rows more, where the buffer has room for them
 abbrev pub moved : ℕ → ℕ → ℕ → ℕ
-moved room k at = cond (leb (29 * k) room) (at + k) at
+moved room k at = cond (leb (rowWidth * k) room) (at + k) at
 
 -- in a roll of m rows, after some keys: past the rows asked for since the last reset, or past all if there are fewer
 unfoldable pub cursor : ℕ → List Key → ℕ
@@ -92,5 +92,5 @@ pub record Desk (l : List Command) : Type 0 where
       → SameView s s′ screen screen′
   -- and so does a refresh: opened anew, and advanced by as many rows as had been shown
   pub refreshed :
-      {keys : List Key} {room : ℕ} {s s′ : Session} {screen screen′ : List ℕ} → Pressed l keys s screen → Pressed l (advance (s .shown) room ∷ []) s′ screen′ → 29 * s .shown ≤ room
+      {keys : List Key} {room : ℕ} {s s′ : Session} {screen screen′ : List ℕ} → Pressed l keys s screen → Pressed l (advance (s .shown) room ∷ []) s′ screen′ → rowWidth * s .shown ≤ room
       → SameView s s′ screen screen′

@@ -6,6 +6,7 @@ use Prim.Native.Nat.{ℕ, _*_}
 use lib.ListN.{take}
 use Rattle.sheet.specs.declared.Command.{Command}
 use Rattle.sheet.specs.Returned.{Returned}
+use Rattle.rule.specs.RowBytes.{rowWidth}
 use Rattle.grid_run.specs.Demand.{Demand3}
 use Rattle.promises.specs.Runs.{Run, rowCount, Room}
 
@@ -19,4 +20,4 @@ pub record Partners (l : List Command) : Type 0 where
   -- and the same rows, byte for byte
   pub same-rows :
       {before exit before′ exit′ : List ℕ} {x x′ : Returned} → Run l before exit x → Run l before′ exit′ x′ → Room l before → Room l before′
-      → take (29 * rowCount l) exit ≡ take (29 * rowCount l) exit′
+      → take (rowWidth * rowCount l) exit ≡ take (rowWidth * rowCount l) exit′

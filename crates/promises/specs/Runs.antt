@@ -10,12 +10,13 @@ use Rattle.rule.specs.declared.Row.{Row}
 use Rattle.cells.specs.Grid.{Figure}
 use Rattle.sheet.specs.declared.Answer.{Answer}
 use Rattle.sheet.specs.Answer.{answered}
+use Rattle.rule.specs.RowBytes.{rowWidth}
 use Rattle.plain_run.specs.Rolled.{Rolls}
 use Rattle.grid_run.specs.declared.GridRolled.{GridRolled}
 use Rattle.grid_run.specs.GridRolled.{gridRolled, GridRolls}
 use Rattle.grid_run.specs.Demand.{Given}
-use Rattle.stored.specs.declared.Stored.the-variants.{Found}
-use Rattle.stored.specs.Stored.{rowIn}
+use Rattle.row.specs.declared.Stored.the-variants.{Found}
+use Rattle.row.specs.Stored.{rowIn}
 
 -- a call on the sheet of commands l, given in any order and as bytes or records: of either run, at any of the six figures.
 -- The caller's buffer before and after it, and what it returned
@@ -29,7 +30,7 @@ rowCount l = length (tracksOf l)
 
 -- a lent buffer has room for them
 abbrev pub Room : List Command → List ℕ → Type 0
-Room l before = 29 * rowCount l ≤ length before
+Room l before = rowWidth * rowCount l ≤ length before
 
 -- row_at finds r at one of the first n places of these bytes
 pub record Reads (bytes : List ℕ) (n : ℕ) (r : Row) : Type 0 where

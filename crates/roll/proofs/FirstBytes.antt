@@ -23,6 +23,10 @@ use Rattle.sheet.specs.Table.{table, no-line, firstBroken, tooMany}
 use Rattle.sheet.proofs.Acceptance.{clear, tracks-append, walls-append}
 use Rattle.sheet.proofs.Encoded.{went-on}
 
+-- 256 tracks, 256 walls, and one command more with its operands (SHEETS 2.10)
+abbrev pub deciding : ℕ
+deciding = 5131
+
 -- ---- what stands at a place with 11 bytes from it on
 
 abbrev itemOf : ℕ → Track → Wall → Item
@@ -99,7 +103,7 @@ chosen Z false f = refl
 next : {before : List Command} {at : ℕ} → Counted before at → (c : Command) → eqb (firstBroken table before c) no-line ≡ true → Counted (before ++ (c ∷ [])) (at + width c)
 next {before} k c e = one-more k c (clear before c (eqb-true (firstBroken table before c) 0 e) .room)
 
-module _ (s : List ℕ) (n : ℕ) (h : 5131 ≤ n) (k : n ≤ length s) where
+module _ (s : List ℕ) (n : ℕ) (h : deciding ≤ n) (k : n ≤ length s) where
   at-item : (at : ℕ) (N M : Command → Returned) → at ≤ 5120 → ((c : Command) → N c ≡ M c) → (i : Item) → atItem (take n s) at N i ≡ atItem s at M i
   at-item at N M l e Unknown = refl
   at-item at N M l e Cut = refl
@@ -123,7 +127,7 @@ module _ (s : List ℕ) (n : ℕ) (h : 5131 ≤ n) (k : n ≤ length s) where
 
 -- ---- a sheet that is longer is refused
 
-module _ (s : List ℕ) (h : 5131 ≤ length s) where
+module _ (s : List ℕ) (h : deciding ≤ length s) where
   at-item-refused : (at : ℕ) (N : Command → Returned) → at ≤ 5120 → ((c : Command) → N c ≡ accepted → ⊥) → (i : Item) → atItem s at N i ≡ accepted → ⊥
   at-item-refused at N l e Unknown q = let z : _≡_ {A = ℕ} 0 1 = cc in omega arith
   at-item-refused at N l e Cut q = let z : _≡_ {A = ℕ} 0 1 = cc in omega arith
@@ -150,7 +154,7 @@ pub record Decides (n : ℕ) (s : List ℕ) : Type 0 where
   pub verdict : verdictOf (take n s) ≡ verdictOf s
   pub whole : verdictOf s ≡ accepted → take n s ≡ s
 
-pub first-bytes : (n : ℕ) (s : List ℕ) → 5131 ≤ n → Decides n s
+pub first-bytes : (n : ℕ) (s : List ℕ) → deciding ≤ n → Decides n s
 unfolding verdictOf
 first-bytes n s h = go (ltb n (length s)) refl
   where

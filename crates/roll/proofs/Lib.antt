@@ -1,2 +1,2 @@
 pub mod FirstBytes
-pub mod Answered
+pub mod ReadsEnough

@@ -9,7 +9,7 @@ use Rattle.sheet.specs.Returned.{accepted, gives, refused}
 use Rattle.sheet.specs.HandedIn.{handedIn, checkOf}
 use Rattle.sheet.specs.Lent.{andThen}
 use Rattle.sheet.proofs.Lent as ending
-use Rattle.rule.specs.RowBytes.{rollBytes}
+use Rattle.rule.specs.RowBytes.{rollBytes, rowWidth}
 use Rattle.rule.proofs.Existence.{roll-length}
 use Rattle.records.specs.Records.{Handed}
 use Rattle.sheet.specs.declared.Answer.{Answer}
@@ -31,7 +31,7 @@ module _ (s : Session) (n : ℕ) (before : List ℕ) where
   pub sheet-refused : {a b : ℕ} {r : Answer} → checkOf (s .sheet) ≡ refused a b → r ≡ Refused a b → Advances s n before before (record { session = s; answer = r })
   unfolding advanceSession
   sheet-refused e q =
-      let (x, b) = ending.as-refused bytes before (29 * length (nextRows s n)) (length (nextRows s n)) e in
+      let (x, b) = ending.as-refused bytes before (rowWidth * length (nextRows s n)) (length (nextRows s n)) e in
       record { answer = rw q x; session = rw (sym x) refl; buffer = b }
 
   module _ (ok : checkOf (s .sheet) ≡ accepted) {all from k : ℕ} (a : length (rollIn s) ≡ all) (f : from ≡ min (s .shown) all) (m : k ≡ min n (all - from)) where
@@ -47,31 +47,31 @@ module _ (s : Session) (n : ℕ) (before : List ℕ) where
         ∙ ap (λ (j : ℕ). take j (rowsLeft s)) g
         ∙ take-min n (rowsLeft s)
 
-    pub too-short : length before < 29 * k → Advances s n before before (record { session = s; answer = Refused 12 (29 * k) })
+    pub too-short : length before < rowWidth * k → Advances s n before before (record { session = s; answer = Refused 12 (rowWidth * k) })
     unfolding advanceSession
     too-short h =
-        let (x, b) = ending.too-short bytes before (length (nextRows s n)) ok (ap (λ (j : ℕ). 29 * j) count) h in
+        let (x, b) = ending.too-short bytes before (length (nextRows s n)) ok (ap (λ (j : ℕ). rowWidth * j) count) h in
         record { answer = x; session = rw (sym x) refl; buffer = b }
 
-    pub shows : (rest : List ℕ) {exit whole part : List ℕ} → 29 * k ≤ length before → whole ≡ rollBytes (rollIn s) ++ rest
-        → part ≡ take (29 * from + 29 * k - 29 * from) (drop (29 * from) whole) → exit ≡ take (length part) part ++ drop (length part) before
+    pub shows : (rest : List ℕ) {exit whole part : List ℕ} → rowWidth * k ≤ length before → whole ≡ rollBytes (rollIn s) ++ rest
+        → part ≡ take (rowWidth * from + rowWidth * k - rowWidth * from) (drop (rowWidth * from) whole) → exit ≡ take (length part) part ++ drop (length part) before
         → Advances s n before exit (record { session = record { sheet = s .sheet; shown = from + k }; answer = Gives k })
     unfolding advanceSession
     shows rest {exit} {whole} {part} h w p q =
         let new = nextRows s n in
-        let i : 29 * from + 29 * k - 29 * from ≡ 29 * k = omega arith in
+        let i : rowWidth * from + rowWidth * k - rowWidth * from ≡ rowWidth * k = omega arith in
         let e : from + k ≡ shownIn s + k = omega arith in
         let g : part ≡ rollBytes new =
         p
-        ∙ ap (λ (j : ℕ). take j (drop (29 * from) whole)) i
-        ∙ ap (λ (x : List ℕ). take (29 * k) (drop (29 * from) x)) w
+        ∙ ap (λ (j : ℕ). take j (drop (rowWidth * from) whole)) i
+        ∙ ap (λ (x : List ℕ). take (rowWidth * k) (drop (rowWidth * from) x)) w
         ∙ rows-at from k (rollIn s) rest (omega arith)
         ∙ ap rollBytes rows in
         let x : exit ≡ bytes ++ drop (length bytes) before =
         q
         ∙ ap (λ (y : List ℕ). take (length y) y ++ drop (length y) before) g
         ∙ ap (λ (y : List ℕ). y ++ drop (length bytes) before) (take-length bytes) in
-        let (a, b) = ending.stored bytes before (29 * length new) ok count (omega (arith, count)) x in
+        let (a, b) = ending.stored bytes before (rowWidth * length new) ok count (omega (arith, count)) x in
         record { answer = a; session = rw (sym a) (ap (λ (j : ℕ). record { sheet = s .sheet; shown = j }) e); buffer = b }
 
 module _ (s : Session) where

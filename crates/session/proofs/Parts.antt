@@ -7,7 +7,7 @@ use native.Mathlib.Omega.{arith}
 use lib.ListN.{length, take, drop, length-drop, take-append-drop}
 use lib.Seq.{length-take-le, take-nil, drop-nil, take-at, drop-at}
 use Rattle.rule.specs.declared.Row.{Row}
-use Rattle.rule.specs.RowBytes.{rollBytes}
+use Rattle.rule.specs.RowBytes.{rollBytes, rowWidth}
 use Rattle.rule.proofs.RowBytes.{roll-bytes-length}
 use Rattle.row.proofs.Roll.{roll-append}
 
@@ -34,15 +34,15 @@ module _ (k : ℕ) (l : List Row) (rest : List ℕ) (h : k ≤ length l) where
       ∙ ap (λ (b : List ℕ). b ++ rest) (roll-append (take k l) (drop k l))
       ∙ append-assoc (rollBytes (take k l)) (rollBytes (drop k l)) rest
 
-  front : length (rollBytes (take k l)) ≡ 29 * k
-  front = roll-bytes-length (take k l) ∙ ap (λ (j : ℕ). 29 * j) (length-take-le k l h)
+  front : length (rollBytes (take k l)) ≡ rowWidth * k
+  front = roll-bytes-length (take k l) ∙ ap (λ (j : ℕ). rowWidth * j) (length-take-le k l h)
 
-  take-rows : take (29 * k) (rollBytes l ++ rest) ≡ rollBytes (take k l)
-  take-rows = ap (take (29 * k)) apart ∙ take-at (rollBytes (take k l)) _ (29 * k) front
+  take-rows : take (rowWidth * k) (rollBytes l ++ rest) ≡ rollBytes (take k l)
+  take-rows = ap (take (rowWidth * k)) apart ∙ take-at (rollBytes (take k l)) _ (rowWidth * k) front
 
-  drop-rows : drop (29 * k) (rollBytes l ++ rest) ≡ rollBytes (drop k l) ++ rest
-  drop-rows = ap (drop (29 * k)) apart ∙ drop-at (rollBytes (take k l)) _ (29 * k) front
+  drop-rows : drop (rowWidth * k) (rollBytes l ++ rest) ≡ rollBytes (drop k l) ++ rest
+  drop-rows = ap (drop (rowWidth * k)) apart ∙ drop-at (rollBytes (take k l)) _ (rowWidth * k) front
 
-pub rows-at : (i k : ℕ) (l : List Row) (rest : List ℕ) → i + k ≤ length l → take (29 * k) (drop (29 * i) (rollBytes l ++ rest)) ≡ rollBytes (take k (drop i l))
+pub rows-at : (i k : ℕ) (l : List Row) (rest : List ℕ) → i + k ≤ length l → take (rowWidth * k) (drop (rowWidth * i) (rollBytes l ++ rest)) ≡ rollBytes (take k (drop i l))
 rows-at i k l rest h =
-    ap (take (29 * k)) (drop-rows i l rest (omega arith)) ∙ take-rows k (drop i l) rest (omega (arith, length-drop i l))
+    ap (take (rowWidth * k)) (drop-rows i l rest (omega arith)) ∙ take-rows k (drop i l) rest (omega (arith, length-drop i l))

@@ -19,7 +19,7 @@ use Rattle.sheet.proofs.Lent as ending
 use Rattle.sheet.proofs.RoundTrip.{handed-back, written-read}
 use Rattle.reader.specs.Reading.{ifAccepted, recordsOf}
 use Rattle.rule.specs.declared.Row.{Row}
-use Rattle.rule.specs.RowBytes.{rollBytes}
+use Rattle.rule.specs.RowBytes.{rollBytes, rowWidth}
 use Rattle.rule.specs.Selection.{rollOf}
 use Rattle.rule.proofs.RowBytes.{roll-bytes-length}
 use Rattle.row.proofs.Roll.{roll-append}
@@ -37,7 +37,7 @@ pub record Went (s : Session) (n : ℕ) (exit : List ℕ) (after : Session) (k :
   pub ok : checkOf (s .sheet) ≡ accepted
   pub count : k ≡ length (nextRows s n)
   pub session : after ≡ record { sheet = s .sheet; shown = shownIn s + k }
-  pub bytes : take (29 * k) exit ≡ rollBytes (nextRows s n)
+  pub bytes : take (rowWidth * k) exit ≡ rollBytes (nextRows s n)
 
 module _ {s : Session} {n : ℕ} {before exit : List ℕ} {r : Advanced} (h : Advances s n before exit r) where
   pub went : {k : ℕ} → answered (r .answer) ≡ gives k → Went s n exit (r .session) k
@@ -45,12 +45,12 @@ module _ {s : Session} {n : ℕ} {before exit : List ℕ} {r : Advanced} (h : Ad
   went {k} e =
       let rows = nextRows s n in
       let g = sym (h .answer) ∙ e in
-      let told = ending.gave (29 * length rows) (length before) (length rows) (decided (listedForm (s .sheet))) (sym g) in
+      let told = ending.gave (rowWidth * length rows) (length before) (length rows) (decided (listedForm (s .sheet))) (sym g) in
       record {
         ok = told .accepts;
         count = told .count;
         session = rw g at (h .session);
-        bytes = ap (take (29 * k)) (h .buffer ∙ ending.put (rollBytes rows) before g) ∙ take-at (rollBytes rows) _ (29 * k) (roll-bytes-length rows ∙ ap (λ (j : ℕ). 29 * j) (sym (told .count)));
+        bytes = ap (take (rowWidth * k)) (h .buffer ∙ ending.put (rollBytes rows) before g) ∙ take-at (rollBytes rows) _ (rowWidth * k) (roll-bytes-length rows ∙ ap (λ (j : ℕ). rowWidth * j) (sym (told .count)));
       }
 
   -- an accepted call hands back a session whose count is within its roll
@@ -72,7 +72,7 @@ module _ {s : Session} {n : ℕ} {before exit : List ℕ} {r : Advanced} (h : Ad
 pub data Steps (S : Listing) : Session → List ℕ → ℕ → Type 0 where
   opened : (b : List ℕ) (r : Begun) → AllBytes b → Begins (verdictOf b) (begun (sheetOf (recordsOf b))) r → verdict (r .answer) ≡ accepted → listing (commandsOf b) ≡ S → Steps S (r .session) [] 0
   handed : (sheet : Sheet) (r : Begun) → Begins (checkOf sheet) (begun sheet) r → verdict (r .answer) ≡ accepted → handedIn sheet ≡ S → Steps S (r .session) [] 0
-  advanced : (s : Session) (w : List ℕ) (a n : ℕ) (before exit : List ℕ) (r : Advanced) (k : ℕ) → Steps S s w a → Advances s n before exit r → answered (r .answer) ≡ gives k → Steps S (r .session) (w ++ take (29 * k) exit) (a + n)
+  advanced : (s : Session) (w : List ℕ) (a n : ℕ) (before exit : List ℕ) (r : Advanced) (k : ℕ) → Steps S s w a → Advances s n before exit r → answered (r .answer) ≡ gives k → Steps S (r .session) (w ++ take (rowWidth * k) exit) (a + n)
   not-advanced : (s : Session) (w : List ℕ) (a n : ℕ) (before exit : List ℕ) (r : Advanced) (m p : ℕ) → Steps S s w a → Advances s n before exit r → answered (r .answer) ≡ refused m p → Steps S (r .session) w a
   reset : (s : Session) (w : List ℕ) (a : ℕ) (r : Begun) → Steps S s w a → Begins (checkOf (s .sheet)) (restart (checkOf (s .sheet)) s) r → verdict (r .answer) ≡ accepted → Steps S (r .session) [] 0
   not-reset : (s : Session) (w : List ℕ) (a : ℕ) (r : Begun) (m p : ℕ) → Steps S s w a → Begins (checkOf (s .sheet)) (restart (checkOf (s .sheet)) s) r → verdict (r .answer) ≡ refused m p → Steps S (r .session) w a
@@ -90,7 +90,7 @@ begins S sheet s e ok h =
     subst (λ (t : Session). SoFar S t [] 0) (sym e)
     (record { ok = ok; of-sheet = h; cursor = sym (zero-min (length (rollOf S))); bytes = refl })
 
-steps-on : (S : Listing) (s : Session) (w : List ℕ) (a n : ℕ) {exit : List ℕ} {t : Session} {k : ℕ} → SoFar S s w a → Went s n exit t k → SoFar S t (w ++ take (29 * k) exit) (a + n)
+steps-on : (S : Listing) (s : Session) (w : List ℕ) (a n : ℕ) {exit : List ℕ} {t : Session} {k : ℕ} → SoFar S s w a → Went s n exit t k → SoFar S t (w ++ take (rowWidth * k) exit) (a + n)
 steps-on S s w a n {exit} {t} {k} p q =
     let R = rollOf S in
     let roll : rollIn s ≡ R = ap rollOf (p .of-sheet) in
@@ -98,7 +98,7 @@ steps-on S s w a n {exit} {t} {k} p q =
     ap₂ (λ (j : ℕ) (l : List Row). take n (drop j l)) (p .cursor) roll ∙ ap (take n) (drop-min a R) in
     let count : k ≡ min n (length R - a) = q .count ∙ ap length next ∙ length-take n (drop a R) ∙ ap (min n) (length-drop a R) in
     let long : length (rollIn s) ≡ length R = ap length roll in
-    subst (λ (u : Session). SoFar S u (w ++ take (29 * k) exit) (a + n)) (sym (q .session))
+    subst (λ (u : Session). SoFar S u (w ++ take (rowWidth * k) exit) (a + n)) (sym (q .session))
     (record {
       ok = p .ok;
       of-sheet = p .of-sheet;
@@ -123,8 +123,8 @@ so-far {S} (not-reset s w a r m q p h e) =
 
 -- as many rows as the steps named or were left (SHEETS 7.2), which are those that the session counts
 module _ {S : Listing} {s : Session} {w : List ℕ} {a : ℕ} (p : Steps S s w a) where
-  pub as-many : length w ≡ 29 * min a (length (rollOf S))
-  as-many = ap length (so-far p .bytes) ∙ roll-bytes-length (take a (rollOf S)) ∙ ap (λ (j : ℕ). 29 * j) (length-take a (rollOf S))
+  pub as-many : length w ≡ rowWidth * min a (length (rollOf S))
+  as-many = ap length (so-far p .bytes) ∙ roll-bytes-length (take a (rollOf S)) ∙ ap (λ (j : ℕ). rowWidth * j) (length-take a (rollOf S))
 
   pub as-counted : w ≡ rollBytes (take (s .shown) (rollOf S))
   as-counted =

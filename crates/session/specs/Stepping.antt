@@ -8,7 +8,7 @@ use Rattle.sheet.specs.Lent.{andThen, orShort, after}
 use Rattle.sheet.specs.Returned.{Returned, accepted, gives, refused, verdict}
 use Rattle.sheet.specs.HandedIn.{handedIn, checkOf}
 use Rattle.rule.specs.declared.Row.{Row}
-use Rattle.rule.specs.RowBytes.{rollBytes}
+use Rattle.rule.specs.RowBytes.{rollBytes, rowWidth}
 use Rattle.rule.specs.Selection.{rollOf}
 use Rattle.sheet.specs.Answer.{answered}
 use Rattle.session.specs.declared.Session.{Session}
@@ -52,7 +52,7 @@ pub record Begins (v : Returned) (s : Session) (r : Begun) : Type 0 where
 
 -- the number of rows that advance writes (SHEETS 7.2), or 12 with the length that this call needs (SHEETS 3.9)
 abbrev pub advanceReturns : Returned → List Row → ℕ → Returned
-advanceReturns v rows lent = andThen v (orShort (29 * length rows) lent (length rows))
+advanceReturns v rows lent = andThen v (orShort (rowWidth * length rows) lent (length rows))
 
 -- past the rows that were written (SHEETS 7.2, 7.6); a refused call hands back the very session
 unfoldable pub advanceSession : Returned → Session → Session

@@ -9,6 +9,7 @@ ghost use Rattle.reader.specs.Reading.{recordsOf};
 ghost use Rattle.sheet.specs.Answer.{answered};
 ghost use Rattle.session.specs.Stepping.{begun, restart, Begins, Advances, runningOf};
 use sheet::Answer;
+use sheet::OUTPUT_TOO_SHORT;
 use sheet::Sheet;
 use sheet::Verdict;
 
@@ -69,7 +70,7 @@ impl Session {
         ensures { λ r. ⌜ Advances self n (now (out .entry)) (now (out .exit)) r ⌝ }
     {
         let sheet = self.sheet;
-        let mut roll = [0u8; 7424];
+        let mut roll = [0u8; row::LONGEST_ROLL];
         let rolled = plain_run::plain_roll(sheet, &mut roll);
         match rolled {
             Answer::Refused(_, _) => Advanced {
@@ -80,14 +81,14 @@ impl Session {
                 let from = least(self.shown, all);
                 let left = all - from;
                 let k = least(n, left);
-                let needed = 29 * k;
+                let needed = row::WIDTH * k;
                 if out.len() < needed {
                     return Advanced {
                         session: self,
-                        answer: Answer::Refused(12, needed),
+                        answer: Answer::Refused(OUTPUT_TOO_SHORT, needed),
                     };
                 }
-                let start = 29 * from;
+                let start = row::WIDTH * from;
                 let end = start + needed;
                 bytes::copy(&roll[start..end], out);
                 let shown = from + k;

@@ -5,14 +5,14 @@ use lib.ListN.{length, length-append}
 use Rattle.rule.specs.declared.Row.{Row}
 use Rattle.rule.specs.RowBytes.{kindOf, partnerOf, RowFits}
 use Rattle.rule.proofs.RowBytes.{kind-in}
-use Rattle.text.specs.Lines.{field, lineOf, headOf, refusedOf, stillOf}
+use Rattle.text.specs.Lines.{field, lineOf, headOf, refusedOf, stillOf, longestLine, longestHead, longestRefusal, longestStill}
 use Rattle.text.proofs.Decimal.{decimal-short}
 
 field-short : (v mark : ℕ) → v < 18446744073709551616 → length (field v mark) ≤ 21
 unfolding field
 field-short v mark h = let d = decimal-short v h in simp length-append (omega arith)
 
-pub line-short : (r : Row) → RowFits r → length (lineOf r) ≤ 147
+pub line-short : (r : Row) → RowFits r → length (lineOf r) ≤ longestLine
 unfolding lineOf
 line-short r f =
     let i = field-short (r .id) 32 (omega (arith, f .id)) in
@@ -24,20 +24,20 @@ line-short r f =
     let y = field-short (r .y) 10 (omega (arith, f .y)) in
     simp length-append (omega arith)
 
-pub head-short : (tracks cells : ℕ) → tracks < 18446744073709551616 → cells < 18446744073709551616 → length (headOf tracks cells) ≤ 55
+pub head-short : (tracks cells : ℕ) → tracks < 18446744073709551616 → cells < 18446744073709551616 → length (headOf tracks cells) ≤ longestHead
 unfolding headOf
 head-short tracks cells h k =
     let t = field-short tracks 32 h in
     let c = field-short cells 10 k in
     simp length-append (omega arith)
 
-pub refusal-short : (number place : ℕ) → number < 18446744073709551616 → place < 18446744073709551616 → length (refusedOf number place) ≤ 50
+pub refusal-short : (number place : ℕ) → number < 18446744073709551616 → place < 18446744073709551616 → length (refusedOf number place) ≤ longestRefusal
 unfolding refusedOf
 refusal-short number place h k =
     let n = field-short number 32 h in
     let p = field-short place 10 k in
     simp length-append (omega arith)
 
-pub still-short : (tracks : ℕ) → tracks < 18446744073709551616 → length (stillOf tracks) ≤ 35
+pub still-short : (tracks : ℕ) → tracks < 18446744073709551616 → length (stillOf tracks) ≤ longestStill
 unfolding stillOf
 still-short tracks h = let t = field-short tracks 32 h in simp length-append (omega arith)

@@ -57,3 +57,16 @@ runningWord = 115 ∷ 116 ∷ 105 ∷ 108 ∷ 108 ∷ 32 ∷ 114 ∷ 117 ∷ 110
 -- the number still running (SHEETS 9.4), as `1 still running`
 unfoldable pub stillOf : ℕ → List ℕ
 stillOf tracks = field tracks 32 ++ runningWord
+
+-- how many bytes a line has at most (`line-short` and its like in proofs/Lengths.antt): a row's, the head, a refusal's, that of the number still running
+abbrev pub longestLine : ℕ
+longestLine = 147
+
+abbrev pub longestHead : ℕ
+longestHead = 55
+
+abbrev pub longestRefusal : ℕ
+longestRefusal = 50
+
+abbrev pub longestStill : ℕ
+longestStill = 35

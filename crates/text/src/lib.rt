@@ -8,6 +8,7 @@ ghost use Rattle.text.specs.Printed.{Prints};
 ghost use Rattle.text.specs.Held.{textIn, Holds, Room};
 use rule::Row;
 use sheet::Answer;
+use sheet::OUTPUT_TOO_SHORT;
 
 // A line while it is put together: none is longer than 160 bytes.
 struct Draft {
@@ -113,7 +114,7 @@ fn give(line: Draft, out: &mut [u8]) -> Answer
 {
     let n = line.length;
     if out.len() < n {
-        return Answer::Refused(12, n);
+        return Answer::Refused(OUTPUT_TOO_SHORT, n);
     }
     let mut i = 0;
     while i < n {

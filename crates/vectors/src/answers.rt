@@ -40,13 +40,13 @@ pub fn print_refusal(number: u8, place: usize) {
     print_number(place);
 }
 
-// The numbers of tracks and walls, and the ordered form. That of 256 tracks and 256 walls is 5,121 bytes long.
+// The numbers of tracks and walls, and the ordered form.
 pub fn print_form(sheet: Sheet) {
     print_number(sheet.ntracks);
     print_text(b" ");
     print_number(sheet.nwalls);
     print_text(b" ");
-    let mut form = [0u8; 5121];
+    let mut form = [0u8; sheet::LONGEST_SHEET];
     let answer = writer::write(sheet, &mut form);
     match answer {
         Answer::Gives(n) => print_hex(&form, n),
@@ -61,7 +61,7 @@ pub fn print_rows(answer: Answer, rows: &[u8]) {
     match answer {
         Answer::Gives(n) => {
             if n <= 256 {
-                print_hex(rows, 29 * n);
+                print_hex(rows, row::WIDTH * n);
             }
         }
         Answer::Refused(number, place) => print_refusal(number, place),

@@ -91,7 +91,7 @@ fn number_at(s: &[u8], at: usize) -> usize
 }
 
 fn grid_at(sheet: Sheet, g: u64, rows: &[u8]) {
-    let mut again = [0u8; 7424];
+    let mut again = [0u8; row::LONGEST_ROLL];
     let answer = grid_run::grid_roll(sheet, g, &mut again);
     print_cells(answer, &again, rows);
 }
@@ -108,7 +108,7 @@ fn print_figures(sheet: Sheet, rows: &[u8]) {
 }
 
 fn print_rolls(sheet: Sheet) {
-    let mut rows = [0u8; 7424];
+    let mut rows = [0u8; row::LONGEST_ROLL];
     let answer = plain_run::plain_roll(sheet, &mut rows);
     print_rows(answer, &rows);
     print_figures(sheet, &rows);

@@ -8,7 +8,7 @@ use crate::answers::print_text;
 use sheet::Verdict;
 
 fn grid_at(s: &[u8], g: u64, rows: &[u8]) {
-    let mut again = [0u8; 7424];
+    let mut again = [0u8; row::LONGEST_ROLL];
     let answer = grid_run::grid_roll_bytes(s, g, &mut again);
     print_cells(answer, &again, rows);
 }
@@ -24,9 +24,8 @@ fn print_figures(s: &[u8], rows: &[u8]) {
     print_text(b"\n");
 }
 
-// The roll of 256 tracks is 7,424 bytes long.
 fn print_rolls(s: &[u8]) {
-    let mut rows = [0u8; 7424];
+    let mut rows = [0u8; row::LONGEST_ROLL];
     let answer = plain_run::plain_roll_bytes(s, &mut rows);
     print_rows(answer, &rows);
     print_figures(s, &rows);

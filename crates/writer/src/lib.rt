@@ -6,6 +6,7 @@ ghost use Rattle.sheet.specs.HandedIn.{checkOf};
 ghost use Rattle.sheet.specs.Answer.{answered};
 ghost use Rattle.writer.specs.Written.{writeOf, bufferAfter};
 use sheet::Answer;
+use sheet::OUTPUT_TOO_SHORT;
 use sheet::Sheet;
 use sheet::Verdict;
 
@@ -28,7 +29,7 @@ pub fn write(sheet: Sheet, out: &mut [u8]) -> Answer
         Verdict::Accepted => {
             let needed = sheet.ntracks * 9 + sheet.nwalls * 11 + 1;
             if out.len() < needed {
-                return Answer::Refused(12, needed);
+                return Answer::Refused(OUTPUT_TOO_SHORT, needed);
             }
             encoding::order(sheet, out);
             Answer::Gives(needed)

@@ -1,9 +1,10 @@
 -- The lines of the rows read back and the number behind them, or the refusal.
-use Prim.Native.Nat.{ℕ}
+use Prim.Native.Nat.{ℕ, _*_}
 use native.Mathlib.Omega.{arith}
 use lib.ListN.{length-replicate}
 use borrow.Author.Needs.{needs}
 use Rattle.layout.proofs.Bytes.{slice-bytes}
+use Rattle.rule.specs.RowBytes.{rowWidth}
 use Rattle.page.proofs.Putting.{and-behind, within}
 use Rattle.bulletin.proofs.Told.{rows-read, as-refused, tells, tells-refusal}
 use Rattle.bulletin.proofs.bulletin.Statement.{statement}
@@ -26,7 +27,7 @@ put-rows-requires c κs =
     let f = c .before .before .before .before .before .before .before in
     let z = f .before .before .before .before in
     let bytes = slice-bytes (z .args .sheet .now) (f .before .before .before .shared-slice-known .given) in
-    let d = rows-read (z .args .sheet .now) bytes (length-replicate {A = ℕ} 87 0) (f .first-rows .ensures) (c .before .before .before .answer .given .1) in
+    let d = rows-read (z .args .sheet .now) bytes (length-replicate {A = ℕ} (3 * rowWidth) 0) (f .first-rows .ensures) (c .before .before .before .answer .given .1) in
     omega (arith, d .few, z .pre)
 
 put-running-requires : tie.Need-put-running-requires
@@ -34,7 +35,7 @@ put-running-requires c κs =
     let f = c .before .before .before .before .before .before .before .before .before .before .before in
     let z = f .before .before .before .before in
     let bytes = slice-bytes (z .args .sheet .now) (f .before .before .before .shared-slice-known .given) in
-    let d = rows-read (z .args .sheet .now) bytes (length-replicate {A = ℕ} 87 0) (f .first-rows .ensures) (c .before .before .before .before .before .before .before .answer .given .1) in
+    let d = rows-read (z .args .sheet .now) bytes (length-replicate {A = ℕ} (3 * rowWidth) 0) (f .first-rows .ensures) (c .before .before .before .before .before .before .before .answer .given .1) in
     let h = c .before .before .before .put-rows .ensures in
     omega (arith, d .few, h .1, h .0 .same, z .pre)
 
@@ -52,7 +53,7 @@ returns c =
     let f = c .before .before .before .before .before .before .before .before .before .before .before .before .before .before in
     let z = f .before .before .before .before in
     let bytes = slice-bytes (z .args .sheet .now) (f .before .before .before .shared-slice-known .given) in
-    let d = rows-read (z .args .sheet .now) bytes (length-replicate {A = ℕ} 87 0) (f .first-rows .ensures) (c .before .before .before .before .before .before .before .before .before .before .answer .given .1) in
+    let d = rows-read (z .args .sheet .now) bytes (length-replicate {A = ℕ} (3 * rowWidth) 0) (f .first-rows .ensures) (c .before .before .before .before .before .before .before .before .before .before .answer .given .1) in
     let h = c .before .before .before .before .before .before .put-rows .ensures .0 in
     let k = c .before .before .put-running .ensures in
     (tells (z .args .sheet .now) bytes d h k, within (and-behind h k))
@@ -65,7 +66,7 @@ returns-2 c =
     let f = c .before .before .before .before .before .before .before .before .before in
     let z = f .before .before .before .before in
     let bytes = slice-bytes (z .args .sheet .now) (f .before .before .before .shared-slice-known .given) in
-    let e = as-refused (z .args .sheet .now) bytes (length-replicate {A = ℕ} 87 0) (f .first-rows .ensures) (c .before .before .before .before .before .answer2 .given .1) in
+    let e = as-refused (z .args .sheet .now) bytes (length-replicate {A = ℕ} (3 * rowWidth) 0) (f .first-rows .ensures) (c .before .before .before .before .before .answer2 .given .1) in
     let k = c .before .before .put-refusal .ensures in
     (tells-refusal (z .args .sheet .now) bytes e k, within k)
 

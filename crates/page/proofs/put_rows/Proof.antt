@@ -4,8 +4,9 @@ use Prim.Native.Nat.{ℕ, _+_, _*_, _-_, _≤_}
 use native.Mathlib.Omega.{arith}
 use borrow.Author.Needs.{needs}
 use Rattle.layout.proofs.Bytes.{slice-bytes}
-use Rattle.stored.specs.Stored.{rowsIn}
-use Rattle.stored.proofs.ReadBack.{found-fits}
+use Rattle.row.specs.Stored.{rowsIn}
+use Rattle.row.proofs.ReadBack.{found-fits}
+use Rattle.text.specs.Lines.{longestLine}
 use Rattle.page.specs.Rows.{linesOf}
 use Rattle.page.specs.Behind.{Behind}
 use Rattle.page.proofs.Putting.{no-rows-yet, one-row-more, no-row-more}
@@ -13,7 +14,7 @@ use Rattle.page.proofs.put_rows.Statement.{statement}
 use Rattle.page.proofs.put_rows.Tie as tie
 
 abbrev Inv-loop : tie.InvT-loop
-Inv-loop rows n at out₀ end₀ k₀ out end k = Behind (linesOf (rowsIn rows k)) at out₀ end out × (end ≤ at + 147 * k) × (k ≤ n)
+Inv-loop rows n at out₀ end₀ k₀ out end k = Behind (linesOf (rowsIn rows k)) at out₀ end out × (end ≤ at + longestLine * k) × (k ≤ n)
 
 abbrev μ-loop : tie.MeasureT-loop
 μ-loop rows n at out₀ end₀ k₀ out end k = n - k

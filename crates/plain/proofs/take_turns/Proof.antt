@@ -4,7 +4,7 @@ use Prim.Native.Nat.{_*_, _≤_, _-_}
 use native.Mathlib.Omega.{arith}
 use lib.ListN.{length, take}
 use lib.Seq.{length-sets}
-use Rattle.rule.specs.RowBytes.{rowBytes}
+use Rattle.rule.specs.RowBytes.{rowBytes, rowWidth}
 use Rattle.rule.specs.Selection.{rollOf}
 use Rattle.row.specs.Written.{Written}
 use Rattle.row.proofs.Roll.{written-none}
@@ -50,7 +50,7 @@ loop-again c =
       search needs,
       state-as (g .0) (g .1),
       rows-then S (l .k) (l .inv .2) (g .1) (g .0) (omega (arith, o .pre .4, h, c .before .before .before .before .before .before .before .before .before .track-count .ensures)) (g .2) (l .inv .3),
-      ap length (g .2) ∙ length-sets (l .out) (29 * l .k) (rowBytes (nextRow S (l .k))) ∙ l .inv .4,
+      ap length (g .2) ∙ length-sets (l .out) (rowWidth * l .k) (rowBytes (nextRow S (l .k))) ∙ l .inv .4,
     )
 
 same-length : tie.Need-same-length Inv-loop μ-loop

@@ -6,6 +6,7 @@ use mathlib.Core.Path.{_≡_, refl, sym, _∙_}
 use mathlib.Core.List.{List}
 use lib.ListN.{length, replicate, length-replicate}
 use Rattle.sheet.specs.HandedIn.{handedIn, checkOf}
+use Rattle.rule.specs.RowBytes.{rowWidth, longestRoll}
 use Rattle.session.specs.declared.Session.{Session}
 use Rattle.session.specs.Stepping.{rollIn}
 use Rattle.plain_run.proofs.Outcome.{tracks-count}
@@ -41,10 +42,10 @@ least-requires-2 c κs = search needs
 
 -- the function's own buffer
 abbrev clear : List ℕ
-clear = replicate 7424 0
+clear = replicate longestRoll 0
 
-clear-long : length clear ≡ 7424
-clear-long = length-replicate {A = ℕ} 7424 0
+clear-long : length clear ≡ longestRoll
+clear-long = length-replicate {A = ℕ} longestRoll 0
 
 -- the roll stands whole in the function's own buffer
 whole : (c : tie.After-known-told) → Whole (checkOf (self c .sheet)) (handedIn (self c .sheet)) clear (c .before .before .before .before .plain-roll .last .1 .0) (c .before .rolled .given .0 .0)
@@ -57,7 +58,7 @@ every c =
     let h = handed-ready (self c .sheet) (o .good .0 .1 .1 .0) (w .accepts) in
     every-row (self c) h ∙ sym (w .count ∙ tracks-count h)
 
-in-bytes : (c : tie.After-known-told) → 29 * c .before .rolled .given .0 .0 ≤ 7424
+in-bytes : (c : tie.After-known-told) → rowWidth * c .before .rolled .given .0 .0 ≤ longestRoll
 in-bytes c = let w = whole c in omega (arith, w .room, w .count, clear-long)
 
 mul-needed : tie.Need-mul-needed

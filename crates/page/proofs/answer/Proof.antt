@@ -4,10 +4,11 @@ use native.Mathlib.Omega.{arith}
 use lib.ListN.{length-replicate}
 use borrow.Author.Needs.{needs}
 use Rattle.layout.proofs.Bytes.{slice-bytes}
-use Rattle.roll.proofs.Answered.{rows-read, as-refused, prints-roll, prints-refusal}
+use Rattle.rule.specs.RowBytes.{longestRoll}
+use Rattle.page.proofs.Answered.{rows-read, as-refused, prints-roll, prints-refusal}
 use Rattle.page.proofs.Putting.{and-behind, within}
-use Rattle.roll.proofs.answer.Statement.{statement}
-use Rattle.roll.proofs.answer.Tie as tie
+use Rattle.page.proofs.answer.Statement.{statement}
+use Rattle.page.proofs.answer.Tie as tie
 
 slice-aggregate-grid-roll-bytes : tie.Need-slice-aggregate-grid-roll-bytes
 slice-aggregate-grid-roll-bytes c = search needs
@@ -26,7 +27,7 @@ slice-aggregate-put-rows c = search needs
 
 put-rows-requires : tie.Need-put-rows-requires
 put-rows-requires c κs =
-    let d = rows-read (c .before .before .before .before .before .before .before .before .before .before .before .before .before .before .args .sheet .now) (slice-bytes _ (c .before .before .before .before .before .before .before .before .before .before .before .before .before .shared-slice-known .given)) (length-replicate {A = ℕ} 7424 0) (c .before .before .before .before .before .before .before .before .before .before .grid-roll-bytes .ensures) (c .before .before .before .before .before .before .before .rolled .given .1) in
+    let d = rows-read (c .before .before .before .before .before .before .before .before .before .before .before .before .before .before .args .sheet .now) (slice-bytes _ (c .before .before .before .before .before .before .before .before .before .before .before .before .before .shared-slice-known .given)) (length-replicate {A = ℕ} longestRoll 0) (c .before .before .before .before .before .before .before .before .before .before .grid-roll-bytes .ensures) (c .before .before .before .before .before .before .before .rolled .given .1) in
     let h = c .before .before .before .before .put-head .ensures in
     omega (arith, d .few, h .1, c .before .before .before .before .before .before .before .before .before .before .before .before .before .before .pre, h .0 .same)
 
@@ -41,7 +42,7 @@ same-length c = search needs
 
 returns : tie.Need-returns
 returns c =
-    let d = rows-read (c .before .before .before .before .before .before .before .before .before .before .before .before .before .before .before .before .before .args .sheet .now) (slice-bytes _ (c .before .before .before .before .before .before .before .before .before .before .before .before .before .before .before .before .shared-slice-known .given)) (length-replicate {A = ℕ} 7424 0) (c .before .before .before .before .before .before .before .before .before .before .before .before .before .grid-roll-bytes .ensures) (c .before .before .before .before .before .before .before .before .before .before .rolled .given .1) in
+    let d = rows-read (c .before .before .before .before .before .before .before .before .before .before .before .before .before .before .before .before .before .args .sheet .now) (slice-bytes _ (c .before .before .before .before .before .before .before .before .before .before .before .before .before .before .before .before .shared-slice-known .given)) (length-replicate {A = ℕ} longestRoll 0) (c .before .before .before .before .before .before .before .before .before .before .before .before .before .grid-roll-bytes .ensures) (c .before .before .before .before .before .before .before .before .before .before .rolled .given .1) in
     let h = c .before .before .before .before .before .before .before .put-head .ensures .0 in
     let k = c .before .before .put-rows .ensures .0 in
     (prints-roll (c .before .before .before .before .before .before .before .before .before .before .before .before .before .before .before .before .before .args .sheet .now) d h k, within (and-behind h k))
@@ -51,7 +52,7 @@ same-length-2 c = search needs
 
 returns-2 : tie.Need-returns-2
 returns-2 c =
-    let e = as-refused (c .before .before .before .before .before .before .before .before .before .before .before .before .args .sheet .now) (slice-bytes _ (c .before .before .before .before .before .before .before .before .before .before .before .shared-slice-known .given)) (length-replicate {A = ℕ} 7424 0) (c .before .before .before .before .before .before .before .before .grid-roll-bytes .ensures) (c .before .before .before .before .before .rolled2 .given .1) in
+    let e = as-refused (c .before .before .before .before .before .before .before .before .before .before .before .before .args .sheet .now) (slice-bytes _ (c .before .before .before .before .before .before .before .before .before .before .before .shared-slice-known .given)) (length-replicate {A = ℕ} longestRoll 0) (c .before .before .before .before .before .before .before .before .grid-roll-bytes .ensures) (c .before .before .before .before .before .rolled2 .given .1) in
     let b = c .before .before .put-refusal .ensures in
     (prints-refusal (c .before .before .before .before .before .before .before .before .before .before .before .before .args .sheet .now) e b, within b)
 

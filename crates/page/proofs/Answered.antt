@@ -1,4 +1,4 @@
--- What `roll` prints. Main theorems: `prints-roll`, the head and the lines of the roll's own rows; `prints-refusal`; `reads-enough`, the first 5,131 bytes of the input decide what is printed.
+-- What is printed for a sheet. Main theorems: `prints-roll`, the head and the lines of the roll's own rows; `prints-refusal`.
 use mathlib.Core.Path.{_≡_, refl, sym, ap, _∙_, subst}
 use mathlib.Core.List.{List, _++_}
 use Prim.Native.Nat.{ℕ, _≤_}
@@ -12,7 +12,7 @@ use Rattle.sheet.specs.Scan.{verdictOf, commandsOf}
 use Rattle.sheet.proofs.Decided.{Decided, decided}
 use Rattle.sheet.proofs.Lent.{said-given, put, gave, refused-so}
 use Rattle.sheet.proofs.RoundTrip.{accepted-records}
-use Rattle.rule.specs.RowBytes.{rollBytes}
+use Rattle.rule.specs.RowBytes.{rollBytes, longestRoll}
 use Rattle.rule.specs.Selection.{rollOf}
 use Rattle.rule.proofs.Existence.{roll-length}
 use Rattle.cells.specs.Grid.{figureCheck, g8}
@@ -23,14 +23,13 @@ use Rattle.grid_run.specs.declared.GridRolled.{GridRolled}
 use Rattle.grid_run.specs.declared.GridRolled.the-variants.{Rows, Refused}
 use Rattle.grid_run.specs.GridRolled.{Reported, gridRolled, gridReturns, withRows, GridRolls}
 use Rattle.grid_run.proofs.Outcome.{rows-count}
-use Rattle.stored.specs.Stored.{rowsIn}
-use Rattle.stored.proofs.ReadBack.{roll-back}
+use Rattle.row.specs.Stored.{rowsIn}
+use Rattle.row.proofs.ReadBack.{roll-back}
 use Rattle.text.specs.Lines.{headOf, refusedOf}
 use Rattle.page.specs.Behind.{Behind}
 use Rattle.page.specs.Rows.{linesOf}
 use Rattle.page.proofs.Putting.{and-behind}
-use Rattle.roll.specs.Answer.{answerOf}
-use Rattle.roll.proofs.FirstBytes.{Decides, first-bytes}
+use Rattle.page.specs.Answer.{answerOf}
 
 -- 8 is one of the six figures
 same-said : (v : Returned) → andThen v (figureCheck 8) ≡ v
@@ -47,7 +46,7 @@ pub record Read (s rows : List ℕ) (n cells : ℕ) : Type 0 where
   pub are : rowsIn rows n ≡ rollOf (listing (commandsOf s))
   pub counted : cells ≡ cellsEntered (listing (commandsOf s)) 8
 
-module _ (s : List ℕ) (bytes : AllBytes s) {before rows : List ℕ} (long : length before ≡ 7424) {r : GridRolled} (h : GridRolls (verdictOf s) (listing (commandsOf s)) 8 before rows r) where
+module _ (s : List ℕ) (bytes : AllBytes s) {before rows : List ℕ} (long : length before ≡ longestRoll) {r : GridRolled} (h : GridRolls (verdictOf s) (listing (commandsOf s)) 8 before rows r) where
   abbrev S : Listing
   S = listing (commandsOf s)
 
@@ -98,16 +97,3 @@ module _ (s : List ℕ) {out exit : List ℕ} {end : ℕ} where
   pub prints-refusal : {n p : ℕ} → verdictOf s ≡ refused n p → Behind (refusedOf n p) 0 out end exit → take end exit ≡ answerOf (verdictOf s) (listing (commandsOf s))
   unfolding answerOf
   prints-refusal e b = b .is ∙ rw e refl
-
--- the text for the first n bytes of a sheet is the text for the sheet
-pub reads-enough : (n : ℕ) (s : List ℕ) → 5131 ≤ n → answerOf (verdictOf (take n s)) (listing (commandsOf (take n s))) ≡ answerOf (verdictOf s) (listing (commandsOf s))
-unfolding answerOf
-reads-enough n s h = go (verdictOf s) refl (decided s)
-  where
-    d : Decides n s
-    d = first-bytes n s h
-
-    go : (v : Returned) → verdictOf s ≡ v → Decided v → answerOf (verdictOf (take n s)) (listing (commandsOf (take n s))) ≡ answerOf (verdictOf s) (listing (commandsOf s))
-    go accepted e k = ap (λ (z : List ℕ). answerOf (verdictOf z) (listing (commandsOf z))) (d .whole e)
-    go (gives m) e k = absurd k
-    go (refused m p) e k = rw (d .verdict, e) refl

@@ -1,0 +1,78 @@
+-- Each field by its bytes.
+use mathlib.Core.Path.{ap}
+use Rattle.exact.specs.declared.Fraction.{Fraction}
+use Rattle.row.specs.Stored.{rowFrom}
+use borrow.Author.Needs.{needs}
+use Rattle.row.proofs.row_from.Statement.{statement}
+use Rattle.row.proofs.row_from.Tie as tie
+
+id-from-requires : tie.Need-id-from-requires
+id-from-requires c κs = search needs
+
+add-get : tie.Need-add-get
+add-get c = search needs
+
+get-requires : tie.Need-get-requires
+get-requires c κs = search needs
+
+add-get16 : tie.Need-add-get16
+add-get16 c = search needs
+
+get16-requires : tie.Need-get16-requires
+get16-requires c κs = search needs
+
+time-from-requires : tie.Need-time-from-requires
+time-from-requires c κs = search needs
+
+add-get-2 : tie.Need-add-get-2
+add-get-2 c = search needs
+
+get-requires-2 : tie.Need-get-requires-2
+get-requires-2 c κs = search needs
+
+cast-x : tie.Need-cast-x
+cast-x c = search needs
+
+add-get-3 : tie.Need-add-get-3
+add-get-3 c = search needs
+
+get-requires-3 : tie.Need-get-requires-3
+get-requires-3 c κs = search needs
+
+cast-y : tie.Need-cast-y
+cast-y c = search needs
+
+ending-from-requires : tie.Need-ending-from-requires
+ending-from-requires c κs = search needs
+
+returns : tie.Need-returns
+unfolding rowFrom
+returns c =
+    let c1 = c .before .before .before .before .before .before in
+    let c2 = c .before .before .before .before .before in
+    let c3 = c .before .before .before .before in
+    let c4 = c .before .before .before in
+    let c5 = c .before .before in
+    let c6 = c .before in
+    let n = ap (λ (f : Fraction). f .num) (c4 .time-from .ensures) in
+    let d = ap (λ (f : Fraction). f .den) (c4 .time-from .ensures) in
+    rw (c .ending-from .ensures, c1 .id-from .ensures, c2 .get .ensures .0, c3 .get16 .ensures, n, d, c5 .get2 .ensures .0, c6 .get3 .ensures .0)
+
+pub row-from-spec : {M : Type 1} → statement M
+row-from-spec =
+    tie.close
+    (tie.spec
+    id-from-requires
+    add-get
+    get-requires
+    add-get16
+    get16-requires
+    time-from-requires
+    add-get-2
+    get-requires-2
+    cast-x
+    add-get-3
+    get-requires-3
+    cast-y
+    ending-from-requires
+    returns)
