@@ -90,7 +90,14 @@ pub fn turn(
                 let ending = Ending::ByWall(id);
                 Outcome::Rows(ending::end_tip(records, i, ending, rows, tips, out))
             }
-            Event::Edge => Outcome::Rows(ending::end_tip(records, i, Ending::Edge, rows, tips, out)),
+            Event::Edge => Outcome::Rows(ending::end_tip(
+                records,
+                i,
+                Ending::Edge,
+                rows,
+                tips,
+                out,
+            )),
         },
         Next::Nothing => Outcome::Over,
     }
