@@ -9,6 +9,17 @@ ghost use Rattle.ending.specs.Finished.{RoomFor, MayEnd, Finished};
 use causes::Cause;
 use rule::Ending;
 
+// How a track of this id ends a tip: they meet, or the track was there before.
+pub fn by_track(c: Cause, id: u16) -> Ending
+    requires { ⌜ Fine c × (c .class ≡ 0) × (c .id ≡ id) ⌝ }
+    ensures { λ r. ⌜ EndingOf c r ⌝ }
+{
+    if contact::not_later(c.u, c.ud, c.s, c.sd) {
+        return Ending::Meeting(id);
+    }
+    Ending::ByTrack(id)
+}
+
 // How a cause ends a tip.
 pub fn ending_of(c: Cause) -> Ending
     requires { ⌜ Fine c × (c .id ≤ 65535) ⌝ }
@@ -16,10 +27,7 @@ pub fn ending_of(c: Cause) -> Ending
 {
     let id = c.id as u16;
     if c.class == 0 {
-        if contact::not_later(c.u, c.ud, c.s, c.sd) {
-            return Ending::Meeting(id);
-        }
-        return Ending::ByTrack(id);
+        return by_track(c, id);
     }
     if c.class == 1 {
         return Ending::ByWall(id);

@@ -1,18 +1,13 @@
 -- From what the called functions give to what `by_track` and `reach` give.
-use mathlib.Core.Bool.{Bool, true, false}
 use mathlib.Core.List.{List}
 use mathlib.Core.Path.{_≡_, sym, ap, _∙_, subst}
-use Prim.Native.Nat.{ℕ, _*_}
-use lib.Dec.{leb}
-use Rattle.exact.specs.Small.{Small}
+use Prim.Native.Nat.{ℕ}
 use Rattle.sheet.specs.declared.Track.{Track}
 use Rattle.sheet.specs.Listing.{Listing}
 use Rattle.rule.specs.declared.Ending.{Ending}
-use Rattle.rule.specs.declared.Ending.the-variants.{ByTrack, Meeting}
 use Rattle.causes.specs.declared.Cause.{Cause}
 use Rattle.causes.specs.Cause.{Fine}
-use Rattle.causes.proofs.First.{not-later, later}
-use Rattle.ending.specs.Ended.{EndingOf, meets, crosses}
+use Rattle.ending.specs.Ended.{EndingOf}
 use Rattle.tips.specs.Tips.{Tip, tipIn}
 use Rattle.look.specs.Tracks.{LookedAgain}
 use Rattle.grid_turn.specs.Reached.{OfTrack}
@@ -29,15 +24,11 @@ module _ {i id : ℕ} {ts : List Tip} (o : OfTrack i id ts) (c : Cause) (e : c �
   own-id : id ≡ c .id
   own-id = sym (ap (λ (d : Cause). d .id) e ∙ o .named)
 
-  pub track-times : Small (c .u) (c .ud) × Small (c .s) (c .sd)
-  track-times = (own-fine .at, own-fine .there)
+  pub track-asked : Fine c × (c .class ≡ 0) × (c .id ≡ id)
+  track-asked = (own-fine, own-class, sym own-id)
 
-  module _ {b : Bool} (t : b ≡ leb (c .u * c .sd) (c .s * c .ud)) where
-    pub is-meeting : b ≡ true → EndingOf (tipIn ts i .best) (Meeting id)
-    is-meeting h = subst (λ (d : Cause). EndingOf d (Meeting id)) e (meets own-class (not-later (own-fine .at) (own-fine .there) (sym t ∙ h)) (ap Meeting own-id))
-
-    pub is-crossing : b ≡ false → EndingOf (tipIn ts i .best) (ByTrack id)
-    is-crossing h = subst (λ (d : Cause). EndingOf d (ByTrack id)) e (crosses own-class (later (own-fine .at) (own-fine .there) (sym t ∙ h)) (ap ByTrack own-id))
+  pub track-ends : {r : Ending} → EndingOf c r → EndingOf (tipIn ts i .best) r
+  track-ends {r} h = subst (λ (d : Cause). EndingOf d r) e h
 
 -- ---- it looks again
 

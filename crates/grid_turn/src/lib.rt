@@ -24,10 +24,7 @@ fn by_track(tips: &[u64], i: usize, id: u16) -> Ending
     ensures { λ r. ⌜ EndingOf (tipIn (tipsIn (now (tips .entry))) i .best) r ⌝ }
 {
     let c = tips::best_of(tips, i);
-    if contact::not_later(c.u, c.ud, c.s, c.sd) {
-        return Ending::Meeting(id);
-    }
-    Ending::ByTrack(id)
+    ending::by_track(c, id)
 }
 
 // The tip at i reaches a track: it ends, or looks again where that tip had ended before.
