@@ -3,7 +3,7 @@ use mathlib.Core.Path.{_≡_, sym, ap, _∙_}
 use mathlib.Core.List.{List}
 use Prim.Native.Nat.{ℕ, _*_}
 use lib.ListN.{length, take}
-use Rattle.layout.specs.Bytes.{AllBytes}
+use Rattle.byte_order.specs.Bytes.{AllBytes}
 use Rattle.sheet.specs.Lent.{orShort, after}
 use Rattle.sheet.specs.Listing.{Listing, listing}
 use Rattle.sheet.specs.Returned.{Returned, accepted, refused}
@@ -11,7 +11,7 @@ use Rattle.sheet.specs.Scan.{verdictOf, commandsOf}
 use Rattle.sheet.specs.HandedIn.{handedIn, checkOf, sheetOf}
 use Rattle.sheet.proofs.Lent.{said-refused, kept}
 use Rattle.sheet.proofs.RoundTrip.{handed-back, written-read}
-use Rattle.reader.specs.Reading.{recordsOf, ifAccepted}
+use Rattle.sheet_reader.specs.Reading.{recordsOf, ifAccepted}
 use Rattle.rule.specs.RowBytes.{rollBytes, rowWidth}
 use Rattle.rule.specs.Selection.{rollOf}
 use Rattle.session.specs.declared.Session.{Session}

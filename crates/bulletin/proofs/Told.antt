@@ -4,7 +4,7 @@ use mathlib.Core.List.{List, _++_}
 use Prim.Native.Nat.{ℕ, _+_, _*_, _≤_, min}
 use native.Mathlib.Omega.{arith}
 use lib.ListN.{length, take, drop, length-take, length-drop}
-use Rattle.layout.specs.Bytes.{AllBytes}
+use Rattle.byte_order.specs.Bytes.{AllBytes}
 use Rattle.sheet.specs.HandedIn.{handedIn, checkOf, sheetOf}
 use Rattle.sheet.specs.Lent.{andThen}
 use Rattle.sheet.specs.Listing.{Listing, listing}
@@ -13,7 +13,7 @@ use Rattle.sheet.specs.Scan.{verdictOf, commandsOf}
 use Rattle.sheet.proofs.Decided.{decided}
 use Rattle.sheet.proofs.Lent.{said-given, put, gave, refused-so}
 use Rattle.sheet.proofs.RoundTrip.{accepted-records, handed-back, written-read}
-use Rattle.reader.specs.Reading.{recordsOf, ifAccepted}
+use Rattle.sheet_reader.specs.Reading.{recordsOf, ifAccepted}
 use Rattle.rule.specs.declared.Row.{Row}
 use Rattle.rule.specs.RowBytes.{rollBytes, rowWidth}
 use Rattle.rule.specs.Selection.{rollOf}

@@ -8,7 +8,7 @@ use Rattle.sheet.specs.Lent.{after}
 use Rattle.sheet.specs.Listing.{listing}
 use Rattle.sheet.specs.Returned.{Returned, accepted, gives, refused}
 use Rattle.sheet.specs.Scan.{verdictOf, commandsOf}
-use Rattle.reader.specs.Reading.{recordsOf}
+use Rattle.sheet_reader.specs.Reading.{recordsOf}
 use Rattle.rule.specs.declared.Row.{Row}
 use Rattle.rule.specs.RowBytes.{rollBytes}
 use Rattle.rule.specs.Selection.{rollOf}

@@ -6,7 +6,7 @@ use mathlib.Core.List.{List, [], _∷_, _++_, List·Memᴰ·head, List·Memᴰ·
 use Prim.Native.Nat.{ℕ, zero, suc, _<_}
 use native.Mathlib.Nat.{eq-or-lt-of-le}
 use native.Mathlib.Omega.{arith}
-use Rattle.exact.specs.Time.{Time, _≤ᵗ_}
+use Rattle.fraction.specs.Time.{Time, _≤ᵗ_}
 use Rattle.sheet.specs.declared.Track.{Track}
 use Rattle.sheet.specs.Listing.{_∈_}
 use Rattle.rule.specs.Motion.{Inside}

@@ -5,7 +5,7 @@ use mathlib.Core.Bool.{Bool, cond}
 use Prim.Native.Nat.{ℕ, _+_, _*_, _≤_, _<_}
 use native.Mathlib.Omega.{arith}
 use lib.Dec.{ltb}
-use Rattle.exact.specs.Time.{Time}
+use Rattle.fraction.specs.Time.{Time}
 
 pub record Cut : Type 0 where
   pub num : ℕ

@@ -2,7 +2,7 @@
 use Prim.Native.Nat.{ℕ, suc, _*_, _≤_, _<_}
 use mathlib.Core.List.{List}
 use lib.IntN.{ℤ, pos, negsuc}
-use Rattle.exact.specs.Time.{Time}
+use Rattle.fraction.specs.Time.{Time}
 use Rattle.sheet.specs.declared.Track.{Track}
 use Rattle.sheet.specs.Listing.{_∈_}
 use Rattle.cells.specs.declared.Cell.{Cell}

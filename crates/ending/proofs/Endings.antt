@@ -3,17 +3,17 @@ use mathlib.Core.Logic.{_⊎_, inl, inr}
 use mathlib.Core.Path.{_≡_, refl, sym, ap, _∙_}
 use Prim.Native.Nat.{ℕ, zero, suc}
 use native.Mathlib.Omega.{arith}
-use Rattle.exact.specs.Time.{Time, _≤ᵗ_, _<ᵗ_, fraction}
-use Rattle.exact.specs.Order.{≤ᵗ-or-<ᵗ}
-use Rattle.exact.proofs.TimeOrder.{<ᵗ-≤ᵗ-trans, <ᵗ-irrefl}
+use Rattle.fraction.specs.Time.{Time, _≤ᵗ_, _<ᵗ_, fraction}
+use Rattle.fraction.specs.Order.{≤ᵗ-or-<ᵗ}
+use Rattle.fraction.proofs.TimeOrder.{<ᵗ-≤ᵗ-trans, <ᵗ-irrefl}
 use Rattle.sheet.specs.Listing.{Listing}
 use Rattle.sheet.specs.declared.Track.{Track}
 use Rattle.rule.specs.declared.Ending.{Ending}
 use Rattle.rule.specs.declared.Ending.the-variants.{ByTrack, Meeting, ByWall, Edge}
 use Rattle.rule.specs.Causes.{who, rowOf, kind, endingOf}
 use Rattle.row.specs.RowAt.{rowAt}
-use Rattle.causes.specs.declared.Cause.{Cause}
-use Rattle.causes.specs.Cause.{tipAt, whyOf, candOf, Stands}
+use Rattle.cause.specs.declared.Cause.{Cause}
+use Rattle.cause.specs.Cause.{tipAt, whyOf, candOf, Stands}
 use Rattle.ending.specs.Ended.{EndingOf, meets, crosses, strikes, leaves}
 
 -- ---- the ending of a cause

@@ -6,9 +6,9 @@ use Prim.Native.Nat.{ℕ, _<_}
 use native.Mathlib.Decide.{ℕ-discrete}
 use native.Mathlib.Omega.{arith}
 use lib.ListN.{length}
-use Rattle.exact.specs.Time.{Time, _≈ᵗ_}
-use Rattle.exact.proofs.TimeOrder.{≈ᵗ-sym}
-use Rattle.exact.proofs.LowestTerms.{lowestOf-reduced, reduced-time}
+use Rattle.fraction.specs.Time.{Time, _≈ᵗ_}
+use Rattle.fraction.proofs.TimeOrder.{≈ᵗ-sym}
+use Rattle.fraction.proofs.LowestTerms.{lowestOf-reduced, reduced-time}
 use Rattle.sheet.specs.Accepted.{Accepted}
 use Rattle.sheet.specs.Listing.{Listing, _∈_}
 use Rattle.rule.specs.declared.Row.{Row}
@@ -17,8 +17,8 @@ use Rattle.rule.specs.Rows.{time}
 use Rattle.rule.specs.Meanwhile.{Fresh}
 use Rattle.rule.proofs.Selection.{up-one}
 use Rattle.rule.proofs.Tests.{eqb-self}
-use Rattle.causes.specs.Cause.{tipAt, candOf}
-use Rattle.causes.specs.Looked.{Gone}
+use Rattle.cause.specs.Cause.{tipAt, candOf}
+use Rattle.cause.specs.Looked.{Gone}
 use Rattle.tips.specs.Tips.{Tip, tipIn, withEnd}
 use Rattle.look.specs.Ends.{endOf, Ends}
 use Rattle.tips.proofs.Put.{at-put}

@@ -3,8 +3,8 @@ use mathlib.Core.List.{List}
 use mathlib.Core.Path.{_≡_, sym, ap, _∙_, subst}
 use Prim.Native.Nat.{ℕ, _*_}
 use lib.Seq.{sets}
-use Rattle.exact.specs.Small.{Small}
-use Rattle.exact.specs.Time.{fraction}
+use Rattle.fraction.specs.Small.{Small}
+use Rattle.fraction.specs.Time.{fraction}
 use Rattle.sheet.specs.Accepted.{TrackOk}
 use Rattle.sheet.specs.Listing.{Listing}
 use Rattle.sheet.specs.declared.Track.{Track}
@@ -13,8 +13,8 @@ use Rattle.rule.specs.declared.Ending.{Ending}
 use Rattle.rule.specs.Motion.{Inside}
 use Rattle.rule.specs.RowBytes.{rowBytes, rowWidth}
 use Rattle.row.specs.RowAt.{rowAt}
-use Rattle.causes.specs.declared.Cause.{Cause}
-use Rattle.causes.specs.Cause.{tipAt}
+use Rattle.cause.specs.declared.Cause.{Cause}
+use Rattle.cause.specs.Cause.{tipAt}
 use Rattle.tips.specs.Tips.{Tip, tipIn, withEnd}
 use Rattle.ending.specs.Ended.{Endable}
 use Rattle.ending.specs.Finished.{Finished}

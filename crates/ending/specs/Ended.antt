@@ -2,7 +2,7 @@
 use mathlib.Core.Path.{_≡_}
 use Prim.Native.Nat.{ℕ, _≤_}
 use lib.ListN.{getD}
-use Rattle.exact.specs.Time.{_≤ᵗ_, _<ᵗ_, fraction}
+use Rattle.fraction.specs.Time.{_≤ᵗ_, _<ᵗ_, fraction}
 use Rattle.sheet.specs.declared.Track.{Track}
 use Rattle.sheet.specs.Accepted.{TrackOk}
 use Rattle.sheet.specs.Listing.{Listing}
@@ -11,8 +11,8 @@ use Rattle.rule.specs.declared.Ending.{Ending}
 use Rattle.rule.specs.declared.Ending.the-variants.{ByTrack, Meeting, ByWall, Edge}
 use Rattle.rule.specs.Motion.{Inside}
 use Rattle.rule.specs.Selection.{rollOf}
-use Rattle.causes.specs.declared.Cause.{Cause}
-use Rattle.causes.specs.Cause.{Fine}
+use Rattle.cause.specs.declared.Cause.{Cause}
+use Rattle.cause.specs.Cause.{Fine}
 
 -- the kind of ending (SHEETS 4.10)
 pub data EndingOf (c : Cause) (r : Ending) : Type 0 where

@@ -8,7 +8,7 @@ use Rattle.sheet.specs.Listing.{Listing}
 use Rattle.rule.specs.declared.Ending.{Ending}
 use Rattle.rule.specs.RowBytes.{rowBytes, rowWidth}
 use Rattle.row.specs.RowAt.{rowAt}
-use Rattle.causes.specs.Cause.{tipAt}
+use Rattle.cause.specs.Cause.{tipAt}
 use Rattle.tips.specs.Tips.{Tip, tipIn, withEnd}
 use Rattle.look.specs.Ends.{endOf}
 use Rattle.ending.specs.Ended.{Endable}

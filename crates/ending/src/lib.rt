@@ -1,12 +1,12 @@
 // What both runs do when a tip ends: how its cause ends it (SHEETS 4.10), its row, and its end noted (SHEETS 5.1).
 ghost use mathlib.Core.Path.{_≡_};
 ghost use Prim.Native.Nat.{_+_, _≤_};
-ghost use Rattle.causes.specs.Cause.{Fine};
+ghost use Rattle.cause.specs.Cause.{Fine};
 ghost use Rattle.records.specs.Records.{Recorded, sheetIn};
 ghost use Rattle.tips.specs.Tips.{Room, tipsIn};
 ghost use Rattle.ending.specs.Ended.{EndingOf};
 ghost use Rattle.ending.specs.Finished.{RoomFor, MayEnd, Finished};
-use causes::Cause;
+use cause::Cause;
 use rule::Ending;
 
 // How a track of this id ends a tip: they meet, or the track was there before.

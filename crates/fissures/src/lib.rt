@@ -2,16 +2,16 @@
 // function does, and docs/CONTRACTS.md names the paragraph of docs/SHEETS.md that it serves.
 
 // The records of a sheet; reading, checking and writing them.
-pub use reader::Reading;
-pub use reader::read;
-pub use reader::scan;
+pub use sheet_reader::Reading;
+pub use sheet_reader::read;
+pub use sheet_reader::scan;
 pub use sheet::Answer;
 pub use sheet::Sheet;
 pub use sheet::Track;
 pub use sheet::Verdict;
 pub use sheet::Wall;
-pub use writer::check;
-pub use writer::write;
+pub use sheet_writer::check;
+pub use sheet_writer::write;
 
 // The roll, by the plain run and by the grid run; two listings exchanged.
 pub use grid_run::Exchanged;
@@ -33,8 +33,8 @@ pub use text::refusal;
 pub use text::still_running;
 
 // The stepping session, the partner's name or where it lies, the tracks of a cell.
-pub use listing::cell_tracks;
-pub use listing::cell_tracks_bytes;
+pub use cell_listing::cell_tracks;
+pub use cell_listing::cell_tracks_bytes;
 pub use names::partner_name;
 pub use names::place::Place;
 pub use names::place::partner_place;

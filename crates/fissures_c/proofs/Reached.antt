@@ -4,7 +4,7 @@ use mathlib.Core.Path.{_≡_, refl, sym, ap, _∙_, subst}
 use mathlib.Core.List.{List}
 use Prim.Native.Nat.{ℕ}
 use lib.ListN.{length}
-use Rattle.layout.specs.Bytes.{AllBytes}
+use Rattle.byte_order.specs.Bytes.{AllBytes}
 use Rattle.sheet.specs.declared.Sheet.{Sheet}
 use Rattle.sheet.specs.Listing.{listing}
 use Rattle.sheet.specs.Returned.{Returned, accepted, gives, refused}
@@ -14,8 +14,8 @@ use Rattle.sheet.specs.HandedIn.{checkOf, sheetOf}
 use Rattle.sheet.specs.Lent.{andThen, orShort, after}
 use Rattle.sheet.proofs.Lent as ending
 use Rattle.sheet.proofs.RoundTrip.{written-read}
-use Rattle.reader.specs.Reading.{recordsOf, ifAccepted}
-use Rattle.writer.specs.Written.{formOf, writeOf, bufferAfter}
+use Rattle.sheet_reader.specs.Reading.{recordsOf, ifAccepted}
+use Rattle.sheet_writer.specs.Written.{formOf, writeOf, bufferAfter}
 use Rattle.grid_run.specs.GridRolled.{withRows}
 use Rattle.fissures_c.specs.Answers.{number, other, told}
 use Rattle.fissures_c.specs.Calls.{orderReturns, orderCall, countAfter}

@@ -8,7 +8,7 @@ use native.Mathlib.Omega.{arith}
 use borrow.Author.Tests.{lt-ltb, le-ltb, ltb-false}
 use lib.Dec.{ltb}
 use lib.ListN.{length, take, drop, set}
-use Rattle.layout.specs.Bytes.{AllBytes}
+use Rattle.byte_order.specs.Bytes.{AllBytes}
 use Rattle.sheet.specs.Listing.{Listing, listing}
 use Rattle.sheet.specs.Returned.{Returned, accepted, gives, refused, verdict}
 use Rattle.sheet.specs.Scan.{verdictOf, commandsOf}
@@ -17,7 +17,7 @@ use Rattle.sheet.specs.Lent.{andThen, orShort, after}
 use Rattle.sheet.proofs.Decided.{Decided, decided}
 use Rattle.sheet.proofs.Lent.{said-refused, kept, put, gave}
 use Rattle.sheet.proofs.RoundTrip.{handed-back, written-read}
-use Rattle.reader.specs.Reading.{recordsOf, ifAccepted}
+use Rattle.sheet_reader.specs.Reading.{recordsOf, ifAccepted}
 use Rattle.rule.specs.RowBytes.{rollBytes, rowWidth}
 use Rattle.rule.specs.Selection.{rollOf}
 use Rattle.sheet.specs.declared.Answer.{Answer}

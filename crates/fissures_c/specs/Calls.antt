@@ -8,7 +8,7 @@ use Rattle.sheet.specs.Returned.{Returned, accepted, gives, refused}
 use Rattle.sheet.specs.Listing.{listing}
 use Rattle.sheet.specs.Scan.{verdictOf, commandsOf}
 use Rattle.sheet.specs.Ordered.{orderedForm}
-use Rattle.reader.specs.Reading.{recordsOf}
+use Rattle.sheet_reader.specs.Reading.{recordsOf}
 use Rattle.rule.specs.RowBytes.{rollBytes}
 use Rattle.rule.specs.Rows.{timeOf}
 use Rattle.rule.specs.Selection.{rollOf}
@@ -16,8 +16,8 @@ use Rattle.cells.specs.CellsEntered.{cellsEntered}
 use Rattle.cells.specs.Grid.{side}
 use Rattle.plain_run.specs.Rolled.{rollReturns}
 use Rattle.grid_run.specs.GridRolled.{gridReturns}
-use Rattle.listing.specs.CellIds.{CellIds}
-use Rattle.listing.specs.Listed.{idBytes, cellCheck, listReturns, cell}
+use Rattle.cell_listing.specs.CellIds.{CellIds}
+use Rattle.cell_listing.specs.Listed.{idBytes, cellCheck, listReturns, cell}
 use Rattle.fissures_c.specs.Answers.{number, other, leaves}
 
 -- reading a sheet and writing its ordered form (SHEETS 2.6)

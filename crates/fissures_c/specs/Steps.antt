@@ -10,7 +10,7 @@ use Rattle.sheet.specs.Returned.{Returned, accepted, gives, refused, verdict}
 use Rattle.sheet.specs.HandedIn.{sheetOf}
 use Rattle.sheet.specs.Listing.{listing}
 use Rattle.sheet.specs.Scan.{verdictOf, commandsOf}
-use Rattle.reader.specs.Reading.{recordsOf}
+use Rattle.sheet_reader.specs.Reading.{recordsOf}
 use Rattle.rule.specs.declared.Ending.{Ending}
 use Rattle.rule.specs.declared.Ending.the-variants.{Edge}
 use Rattle.rule.specs.declared.Row.{Row}

@@ -36,7 +36,7 @@ fn tell(answer: Answer, second: &mut u64) -> u64
 pub extern "C" fn fissure_check(s: &[u8], second: &mut u64) -> u64
     ensures { λ r. ⌜ (r, now (second .exit)) ≡ told (verdictOf (now (s .entry))) ⌝ }
 {
-    let verdict = reader::scan(s);
+    let verdict = sheet_reader::scan(s);
     match verdict {
         Verdict::Accepted => tell(Answer::Gives(0), second),
         Verdict::Refused(number, place) => tell(Answer::Refused(number, place), second),
@@ -48,13 +48,13 @@ pub extern "C" fn fissure_check(s: &[u8], second: &mut u64) -> u64
 pub extern "C" fn fissure_order(s: &[u8], out: &mut [u8], second: &mut u64) -> u64
     ensures { λ r. ⌜ (r, now (second .exit), now (out .exit)) ≡ orderCall (now (s .entry)) (now (out .entry)) ⌝ }
 {
-    let reading = reader::read(s);
+    let reading = sheet_reader::read(s);
     let verdict = reading.verdict;
     match verdict {
         Verdict::Refused(number, place) => tell(Answer::Refused(number, place), second),
         Verdict::Accepted => {
             let sheet = reading.sheet;
-            tell(writer::write(sheet, out), second)
+            tell(sheet_writer::write(sheet, out), second)
         }
     }
 }
@@ -104,7 +104,7 @@ pub extern "C" fn fissure_cells(
 ) -> u64
     ensures { λ r. ⌜ CellsListed (now (s .entry)) g column row (now (out .entry)) (r, now (second .exit), now (out .exit)) ⌝ }
 {
-    tell(listing::cell_tracks_bytes(s, g, column, row, out), second)
+    tell(cell_listing::cell_tracks_bytes(s, g, column, row, out), second)
 }
 
 // The numbers of a session: one, the rows shown.

@@ -6,10 +6,10 @@ use native.Mathlib.Omega.{arith}
 use lib.ListN.{length}
 use Rattle.sheet.specs.declared.Track.{Track}
 use Rattle.sheet.specs.Listing.{Listing}
-use Rattle.causes.specs.declared.Cause.{Cause}
-use Rattle.causes.specs.Cause.{tipAt}
-use Rattle.causes.specs.Offer.{AtEdge}
-use Rattle.causes.proofs.Looking.{OfEdge, edge-first}
+use Rattle.cause.specs.declared.Cause.{Cause}
+use Rattle.cause.specs.Cause.{tipAt}
+use Rattle.cause.specs.Offer.{AtEdge}
+use Rattle.cause.proofs.Looking.{OfEdge, edge-first}
 use Rattle.cells.specs.declared.Cell.{Cell}
 use Rattle.cells.specs.Grid.{Figure, g1, g2, g4, g8, g16, g32, side}
 use Rattle.cells.specs.Walk.{first}

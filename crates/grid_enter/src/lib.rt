@@ -45,10 +45,10 @@ fn start_tip(
 {
     let side = 4096 / g;
     let a = records::track_at(records, i);
-    let c = causes::edge_cause(a);
+    let c = cause::edge_cause(a);
     tips::put_base(tips, i, c);
     tips::put_best(tips, i, c);
-    let k = walk::first_cell(a, side);
+    let k = cell_walk::first_cell(a, side);
     enter(records, side, i, k, tips, queue, marks, members);
 }
 

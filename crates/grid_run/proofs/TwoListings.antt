@@ -3,7 +3,7 @@ use mathlib.Core.Path.{_≡_, sym, ap, _∙_, subst}
 use mathlib.Core.List.{List, List·Permᴰ, Permᴰ·refl, Permᴰ·symm}
 use Prim.Native.Nat.{ℕ, _*_}
 use lib.ListN.{take}
-use Rattle.layout.specs.Bytes.{AllBytes}
+use Rattle.byte_order.specs.Bytes.{AllBytes}
 use Rattle.sheet.specs.Format.{encodeAll}
 use Rattle.sheet.specs.Listing.{listing}
 use Rattle.sheet.specs.Returned.{accepted}

@@ -39,7 +39,7 @@ fn rows(sheet: Sheet, g: u64, out: &mut [u8]) -> GridRolled
     if out.len() < needed {
         return GridRolled::Refused(OUTPUT_TOO_SHORT, needed);
     }
-    let cells = grid::roll(sheet, g, out);
+    let cells = grid_turns::roll(sheet, g, out);
     GridRolled::Rows {
         rows: n,
         cells: cells as u64,
@@ -50,7 +50,7 @@ fn rows(sheet: Sheet, g: u64, out: &mut [u8]) -> GridRolled
 pub fn grid_roll(sheet: Sheet, g: u64, out: &mut [u8]) -> GridRolled
     ensures { λ r. ⌜ GridRolls (checkOf sheet) (handedIn sheet) g (now (out .entry)) (now (out .exit)) r ⌝ }
 {
-    let v = writer::check(sheet);
+    let v = sheet_writer::check(sheet);
     match v {
         Verdict::Refused(number, place) => GridRolled::Refused(number, place),
         Verdict::Accepted => rows(sheet, g, out),
@@ -61,7 +61,7 @@ pub fn grid_roll(sheet: Sheet, g: u64, out: &mut [u8]) -> GridRolled
 pub fn grid_roll_bytes(s: &[u8], g: u64, out: &mut [u8]) -> GridRolled
     ensures { λ r. ⌜ GridRolls (verdictOf (now (s .entry))) (listing (commandsOf (now (s .entry)))) g (now (out .entry)) (now (out .exit)) r ⌝ }
 {
-    let r = reader::read(s);
+    let r = sheet_reader::read(s);
     let v = r.verdict;
     let records = r.sheet;
     match v {

@@ -2,13 +2,13 @@
 use mathlib.Core.List.{List}
 use Prim.Native.Nat.{ℕ}
 use native.Mathlib.Numerals.{add-one}
-use Rattle.exact.specs.Time.{Time, _≤ᵗ_}
+use Rattle.fraction.specs.Time.{Time, _≤ᵗ_}
 use Rattle.sheet.specs.declared.Track.{Track}
 use Rattle.sheet.specs.declared.Wall.{Wall}
 use Rattle.sheet.specs.Listing.{_∈_}
 use Rattle.rule.specs.Motion.{OnWall}
-use Rattle.causes.specs.Looked.{Near}
-use Rattle.causes.proofs.Near.{near-on}
+use Rattle.cause.specs.Looked.{Near}
+use Rattle.cause.proofs.Near.{near-on}
 use Rattle.cells.specs.declared.Cell.{Cell}
 use Rattle.cells.specs.Cut.{past, _≤ᶜ_}
 use Rattle.cells.specs.Grid.{InCell}

@@ -6,7 +6,7 @@ use Prim.Native.Nat.{ℕ, _+_, _<_}
 use native.Mathlib.Omega.{arith}
 use lib.ListN.{length, set, length-set}
 use lib.Seq.{getD-set-same, set-set}
-use Rattle.exact.specs.Time.{Time}
+use Rattle.fraction.specs.Time.{Time}
 use Rattle.sheet.specs.declared.Track.{Track}
 use Rattle.sheet.specs.declared.Wall.{Wall}
 use Rattle.sheet.specs.Listing.{Listing, _∈_}
@@ -16,11 +16,11 @@ use Rattle.rule.specs.Contact.{when}
 use Rattle.rule.specs.WallTime.{wallTime}
 use Rattle.rule.specs.Meanwhile.{Fresh}
 use Rattle.rule.proofs.Turn.{beats-better}
-use Rattle.causes.specs.declared.Cause.{Cause}
-use Rattle.causes.specs.Cause.{tipAt, wallAt, candOf, Fine, Stands}
-use Rattle.causes.specs.Looked.{Near, Gone, FirstOfWalls}
-use Rattle.causes.proofs.First.{first-of}
-use Rattle.causes.proofs.Looking.{OfEdge}
+use Rattle.cause.specs.declared.Cause.{Cause}
+use Rattle.cause.specs.Cause.{tipAt, wallAt, candOf, Fine, Stands}
+use Rattle.cause.specs.Looked.{Near, Gone, FirstOfWalls}
+use Rattle.cause.proofs.First.{first-of}
+use Rattle.cause.proofs.Looking.{OfEdge}
 use Rattle.cells.specs.declared.Cell.{Cell}
 use Rattle.cells.specs.Touched.{CellsOf}
 use Rattle.tips.specs.Tips.{Tip, tipIn, noTip, withBest, withBase, withCell}

@@ -8,8 +8,8 @@ use native.Mathlib.Decide.{ℕ-discrete, decLt}
 use native.Mathlib.Omega.{arith}
 use lib.ListN.{length, getD}
 use lib.Dec.{eqb}
-use Rattle.exact.specs.Time.{Time, _≈ᵗ_, zeroᵗ}
-use Rattle.exact.proofs.TimeOrder.{≈ᵗ-sym}
+use Rattle.fraction.specs.Time.{Time, _≈ᵗ_, zeroᵗ}
+use Rattle.fraction.proofs.TimeOrder.{≈ᵗ-sym}
 use Rattle.sheet.specs.declared.Track.{Track}
 use Rattle.sheet.specs.HandedIn.{noTrack}
 use Rattle.sheet.specs.Listing.{Listing, _∈_}
@@ -22,7 +22,7 @@ use Rattle.rule.proofs.Existence.{roll-of}
 use Rattle.rule.proofs.OneRoll.{timeOf-row}
 use Rattle.rule.proofs.Tests.{eqb-self, eqb-other}
 use Rattle.rule.proofs.Turn.{progress-more}
-use Rattle.causes.specs.Cause.{tipAt}
+use Rattle.cause.specs.Cause.{tipAt}
 use Rattle.cells.specs.declared.Cell.{Cell}
 use Rattle.cells.specs.CellsEntered.{cellsEntered}
 use Rattle.cells.specs.Grid.{side}

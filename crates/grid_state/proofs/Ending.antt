@@ -6,8 +6,8 @@ use Prim.Native.Nat.{ℕ, _+_, _≤_, _<_}
 use native.Mathlib.Decide.{ℕ-discrete}
 use native.Mathlib.Omega.{arith}
 use lib.ListN.{length, take, length-set}
-use Rattle.exact.specs.Time.{Time, _≤ᵗ_, _<ᵗ_, _≈ᵗ_}
-use Rattle.exact.proofs.TimeOrder.{≤ᵗ-trans, <ᵗ→≤ᵗ, ≈ᵗ→≤ᵗ}
+use Rattle.fraction.specs.Time.{Time, _≤ᵗ_, _<ᵗ_, _≈ᵗ_}
+use Rattle.fraction.proofs.TimeOrder.{≤ᵗ-trans, <ᵗ→≤ᵗ, ≈ᵗ→≤ᵗ}
 use Rattle.sheet.specs.declared.Track.{Track}
 use Rattle.sheet.specs.declared.Wall.{Wall}
 use Rattle.sheet.specs.Accepted.{Accepted}
@@ -28,7 +28,7 @@ use Rattle.rule.proofs.Places.{RunsAt, best, turn-seen, grid-seen-at}
 use Rattle.rule.proofs.Selection.{up-one, up-fresh}
 use Rattle.rule.specs.Meanwhile.{Formal, Live, Progress}
 use Rattle.rule.proofs.Turn.{beats-step}
-use Rattle.causes.specs.Cause.{tipAt, candOf, Fine}
+use Rattle.cause.specs.Cause.{tipAt, candOf, Fine}
 use Rattle.ending.specs.Ended.{nextRow}
 use Rattle.ending.proofs.Ended.{out-next, rows-next, progress-next, row-next}
 use Rattle.cells.specs.declared.Cell.{Cell}
@@ -40,7 +40,7 @@ use Rattle.cells.specs.Entered.{Entered}
 use Rattle.cells.proofs.Entered.{entered-last}
 use Rattle.cells.proofs.Points.{shared, placed}
 use Rattle.event_queue.specs.Key.{NotAfter}
-use Rattle.pending_entries.proofs.Order.{leads-cause}
+use Rattle.pending_events.proofs.Order.{leads-cause}
 use Rattle.tips.specs.Tips.{Tip, tipIn, withEnd}
 use Rattle.look.specs.Ends.{endOf}
 use Rattle.pair_marks.specs.Marks.{Marked}

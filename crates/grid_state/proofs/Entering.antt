@@ -7,9 +7,9 @@ use native.Mathlib.Decide.{ℕ-discrete}
 use native.Mathlib.Omega.{arith}
 use lib.ListN.{length, getD, set, length-set}
 use lib.Seq.{getD-set-same, getD-set-other}
-use Rattle.exact.specs.Time.{Time, _≤ᵗ_, _<ᵗ_}
-use Rattle.exact.specs.Order.{≤ᵗ-or-<ᵗ}
-use Rattle.exact.proofs.TimeOrder.{≤ᵗ-trans, <ᵗ→≤ᵗ, ≈ᵗ→≤ᵗ, ≤ᵗ-refl, <ᵗ-≤ᵗ-trans, <ᵗ-irrefl, zero-first}
+use Rattle.fraction.specs.Time.{Time, _≤ᵗ_, _<ᵗ_}
+use Rattle.fraction.specs.Order.{≤ᵗ-or-<ᵗ}
+use Rattle.fraction.proofs.TimeOrder.{≤ᵗ-trans, <ᵗ→≤ᵗ, ≈ᵗ→≤ᵗ, ≤ᵗ-refl, <ᵗ-≤ᵗ-trans, <ᵗ-irrefl, zero-first}
 use Rattle.sheet.specs.declared.Track.{Track}
 use Rattle.sheet.specs.Accepted.{Accepted}
 use Rattle.sheet.specs.HandedIn.{noTrack, noWall}
@@ -22,7 +22,7 @@ use Rattle.rule.specs.EdgeTime.{rim}
 use Rattle.rule.specs.WallTime.{wallTime}
 use Rattle.rule.proofs.Known.{below-le}
 use Rattle.rule.proofs.OnSheet.{rim-inside, contact-of, contact-hit, wall-of, wall-hit}
-use Rattle.causes.specs.Cause.{tipAt, wallAt, candOf}
+use Rattle.cause.specs.Cause.{tipAt, wallAt, candOf}
 use Rattle.cells.specs.declared.Cell.{Cell}
 use Rattle.cells.specs.Grid.{Figure, side, InCell}
 use Rattle.cells.specs.Cut.{Cut, past, _≤ᶜ_, _<ᶜ_}
@@ -36,7 +36,7 @@ use Rattle.cells.proofs.Entry.{cell-entry, point-of, past-before, before-past}
 use Rattle.cells.proofs.Points.{shared, placed, in-grid}
 use Rattle.cells.proofs.Walk.{Stepped, stepped}
 use Rattle.event_queue.specs.Key.{NotAfter}
-use Rattle.pending_entries.proofs.Order.{own-entry, leads-entry}
+use Rattle.pending_events.proofs.Order.{own-entry, leads-entry}
 use Rattle.tips.specs.Tips.{Tip, tipIn, withCell}
 use Rattle.pair_marks.specs.Marks.{Marked}
 use Rattle.grid_steps.specs.Steps.{InGrid, entryIn}

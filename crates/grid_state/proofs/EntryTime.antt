@@ -5,8 +5,8 @@ use mathlib.Core.Path.{_≡_, refl, sym, ap, _∙_, subst}
 use Prim.Native.Nat.{ℕ}
 use native.Mathlib.Omega.{arith}
 use lib.ListN.{drop, take-append-drop}
-use Rattle.exact.specs.Time.{Time, _≤ᵗ_}
-use Rattle.exact.proofs.TimeOrder.{≤ᵗ-trans, ≤ᵗ-<ᵗ-trans, <ᵗ-irrefl, at-most}
+use Rattle.fraction.specs.Time.{Time, _≤ᵗ_}
+use Rattle.fraction.proofs.TimeOrder.{≤ᵗ-trans, ≤ᵗ-<ᵗ-trans, <ᵗ-irrefl, at-most}
 use Rattle.sheet.specs.declared.Track.{Track}
 use Rattle.sheet.specs.declared.Wall.{Wall}
 use Rattle.sheet.specs.Accepted.{Accepted}
@@ -30,8 +30,8 @@ use Rattle.rule.specs.Meanwhile.{Ended, Fresh}
 use Rattle.rule.proofs.Running.{ended?}
 use Rattle.rule.proofs.Selection.{up-all, up-fresh}
 use Rattle.rule.proofs.Walls.{WallMeans, clear, touches}
-use Rattle.causes.specs.declared.Cause.{Cause}
-use Rattle.causes.specs.Cause.{Fine}
+use Rattle.cause.specs.declared.Cause.{Cause}
+use Rattle.cause.specs.Cause.{Fine}
 use Rattle.cells.specs.declared.Cell.{Cell}
 use Rattle.cells.specs.EnteredAt.{EnteredAt}
 use Rattle.cells.specs.Cut.{past, _<ᶜ_}
@@ -41,8 +41,8 @@ use Rattle.cells.proofs.Entry.{past-before, before-past, point-by, entered-at}
 use Rattle.cells.specs.Walk.{next}
 use Rattle.cells.proofs.Walk.{Stepped}
 use Rattle.event_queue.specs.Key as key
-use Rattle.pending_entries.specs.Pending.{pendingKey}
-use Rattle.pending_entries.proofs.Order.{pending-by, own-entry}
+use Rattle.pending_events.specs.Pending.{pendingKey}
+use Rattle.pending_events.proofs.Order.{pending-by, own-entry}
 use Rattle.grid_state.specs.State.{Ahead}
 use Rattle.grid_state.specs.Run.{Rows}
 

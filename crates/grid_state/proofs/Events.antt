@@ -7,8 +7,8 @@ use mathlib.Core.Path.{_≡_, refl, sym, ap, _∙_, subst}
 use Prim.Native.Nat.{ℕ, _+_, _≤_, _<_}
 use native.Mathlib.Omega.{arith}
 use lib.ListN.{length, getD, set}
-use Rattle.exact.specs.Time.{fraction}
-use Rattle.exact.proofs.TimeOrder.{≤ᵗ-refl}
+use Rattle.fraction.specs.Time.{fraction}
+use Rattle.fraction.proofs.TimeOrder.{≤ᵗ-refl}
 use Rattle.sheet.specs.HandedIn.{noTrack}
 use Rattle.sheet.specs.Listing.{Listing, _∈_}
 use Rattle.sheet.proofs.Lists.{mem-at}
@@ -17,10 +17,10 @@ use Rattle.rule.specs.Causes.{rowOf}
 use Rattle.rule.specs.EdgeTime.{rim}
 use Rattle.rule.specs.Rows.{timeOf}
 use Rattle.rule.specs.Selection.{rollOf}
-use Rattle.causes.specs.declared.Cause.{Cause}
-use Rattle.causes.specs.Cause.{tipAt, candOf, Stands}
-use Rattle.causes.specs.Looked.{FirstOfTracks}
-use Rattle.causes.proofs.Looking.{walls-live}
+use Rattle.cause.specs.declared.Cause.{Cause}
+use Rattle.cause.specs.Cause.{tipAt, candOf, Stands}
+use Rattle.cause.specs.Looked.{FirstOfTracks}
+use Rattle.cause.proofs.Looking.{walls-live}
 use Rattle.ending.specs.Ended.{Endable, nextRow}
 use Rattle.cells.specs.declared.Cell.{Cell}
 use Rattle.cells.specs.EnteredAt.{EnteredAt}
@@ -35,7 +35,7 @@ use Rattle.event_queue.specs.declared.Event.the-variants as event
 use Rattle.event_queue.specs.declared.Key.{Key}
 use Rattle.event_queue.specs.Key.{time}
 use Rattle.event_queue.specs.Queue.{Slots, First, Free}
-use Rattle.pending_entries.specs.Pending.{eventOf}
+use Rattle.pending_events.specs.Pending.{eventOf}
 use Rattle.tips.specs.Tips.{Tip, tipIn, withEnd}
 use Rattle.look.specs.Counts.{Counts, no-track, MayTell, stale}
 use Rattle.look.specs.Tracks.{MayLookOn, LookedAgain}

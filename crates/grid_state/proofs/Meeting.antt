@@ -9,10 +9,10 @@ use lib.ListN.{length, set}
 use Rattle.sheet.specs.Listing.{Listing, _∈_}
 use Rattle.rule.specs.declared.Row.{Row}
 use Rattle.rule.specs.Meanwhile.{Beats}
-use Rattle.causes.specs.declared.Cause.{Cause}
-use Rattle.causes.specs.Cause.{tipAt, candOf}
-use Rattle.causes.specs.Looked.{FirstOfTracks}
-use Rattle.causes.proofs.Looking.{tip-fine}
+use Rattle.cause.specs.declared.Cause.{Cause}
+use Rattle.cause.specs.Cause.{tipAt, candOf}
+use Rattle.cause.specs.Looked.{FirstOfTracks}
+use Rattle.cause.proofs.Looking.{tip-fine}
 use Rattle.event_queue.specs.Queue.{Slots}
 use Rattle.tips.specs.Tips.{Tip, tipIn, withBest}
 use Rattle.pair_marks.specs.Marks.{Marked, marking}

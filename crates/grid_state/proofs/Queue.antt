@@ -9,7 +9,7 @@ use native.Mathlib.Omega.{arith}
 use lib.ListN.{length, set, length-set, List·getD-eq-default}
 use lib.Seq.{getD-set-same, getD-set-other}
 use Rattle.sheet.specs.Listing.{Listing}
-use Rattle.causes.specs.Cause.{tipAt}
+use Rattle.cause.specs.Cause.{tipAt}
 use Rattle.event_queue.specs.Key.{NotAfter}
 use Rattle.event_queue.specs.Queue.{Slots, slot, First}
 use Rattle.event_queue.specs.declared.Entry.{Entry}
@@ -18,7 +18,7 @@ use Rattle.event_queue.specs.declared.Key.{Key}
 use Rattle.event_queue.proofs.Bags.{pick}
 use Rattle.event_queue.proofs.Callers.{slot-same, slot-other}
 use Rattle.event_queue.proofs.Slots.{none≢some}
-use Rattle.pending_entries.specs.Pending.{pendingEntry}
+use Rattle.pending_events.specs.Pending.{pendingEntry}
 use Rattle.tips.specs.Tips.{Tip, tipIn, noTip, withEnd}
 use Rattle.grid_steps.specs.Steps.{entryIn}
 use Rattle.grid_state.specs.State.{Runs, Queued}

@@ -5,11 +5,11 @@ use Prim.Native.Nat.{ℕ, zero, suc}
 use native.Mathlib.Omega.{arith}
 use lib.Dec.{eqb}
 use Rattle.rule.proofs.Tests.{eqb-self, eqb-true}
-use Rattle.causes.specs.declared.Cause.{Cause}
+use Rattle.cause.specs.declared.Cause.{Cause}
 use Rattle.cells.specs.declared.Cell.{Cell}
 use Rattle.event_queue.specs.declared.Event.{Event}
 use Rattle.event_queue.specs.declared.Event.the-variants as event
-use Rattle.pending_entries.specs.Pending.{reachedOf, eventOf}
+use Rattle.pending_events.specs.Pending.{reachedOf, eventOf}
 
 -- ---- what is reached
 

@@ -16,10 +16,10 @@ use Rattle.rule.specs.EdgeTime.{rim}
 use Rattle.rule.proofs.Existence.{cand-trans}
 use Rattle.rule.specs.Meanwhile.{Beats, Fresh}
 use Rattle.rule.proofs.Turn.{beats-better}
-use Rattle.causes.specs.declared.Cause.{Cause}
-use Rattle.causes.specs.Cause.{tipAt, wallAt, candOf, Fine, Stands}
-use Rattle.causes.specs.Looked.{Gone, FirstOfTracks}
-use Rattle.causes.proofs.Looking.{tip-looked}
+use Rattle.cause.specs.declared.Cause.{Cause}
+use Rattle.cause.specs.Cause.{tipAt, wallAt, candOf, Fine, Stands}
+use Rattle.cause.specs.Looked.{Gone, FirstOfTracks}
+use Rattle.cause.proofs.Looking.{tip-looked}
 use Rattle.cells.specs.declared.Cell.{Cell}
 use Rattle.cells.specs.Touched.{CellsOf}
 use Rattle.tips.proofs.Put.{at-put}

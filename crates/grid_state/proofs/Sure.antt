@@ -11,7 +11,7 @@ use Rattle.sheet.specs.HandedIn.{noTrack}
 use Rattle.sheet.specs.Listing.{Listing}
 use Rattle.sheet.proofs.Lists.{mem-at}
 use Rattle.rule.specs.declared.Row.{Row}
-use Rattle.causes.specs.Cause.{tipAt, Stands}
+use Rattle.cause.specs.Cause.{tipAt, Stands}
 use Rattle.cells.specs.declared.Cell.{Cell}
 use Rattle.tips.specs.Tips.{Tip, tipIn}
 use Rattle.look.specs.Counts.{Counts, MayTell, stale}

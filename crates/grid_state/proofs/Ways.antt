@@ -8,16 +8,16 @@ use native.Mathlib.Decide.{ℕ-discrete}
 use native.Mathlib.Omega.{arith}
 use lib.ListN.{length, getD, set, length-set}
 use lib.Seq.{getD-set-other}
-use Rattle.exact.specs.Time.{fraction}
+use Rattle.fraction.specs.Time.{fraction}
 use Rattle.sheet.specs.HandedIn.{noTrack}
 use Rattle.sheet.specs.Listing.{Listing, _∈_}
 use Rattle.sheet.proofs.Lists.{mem-at}
 use Rattle.rule.specs.declared.Row.{Row}
 use Rattle.rule.specs.EdgeTime.{rim}
 use Rattle.rule.proofs.Turn.{progress-start}
-use Rattle.causes.specs.declared.Cause.{Cause}
-use Rattle.causes.specs.Cause.{tipAt, Fine, Least}
-use Rattle.causes.proofs.Looking.{OfEdge, walls-live}
+use Rattle.cause.specs.declared.Cause.{Cause}
+use Rattle.cause.specs.Cause.{tipAt, Fine, Least}
+use Rattle.cause.proofs.Looking.{OfEdge, walls-live}
 use Rattle.cells.specs.declared.Cell.{Cell}
 use Rattle.cells.specs.Grid.{Figure, side}
 use Rattle.cells.specs.Walk.{first}

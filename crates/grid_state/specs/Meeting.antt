@@ -9,8 +9,8 @@ use Rattle.sheet.specs.Accepted.{Accepted}
 use Rattle.sheet.specs.Listing.{Listing, _∈_}
 use Rattle.rule.specs.declared.Row.{Row}
 use Rattle.rule.specs.Meanwhile.{Live}
-use Rattle.causes.specs.declared.Cause.{Cause}
-use Rattle.causes.specs.Cause.{candOf}
+use Rattle.cause.specs.declared.Cause.{Cause}
+use Rattle.cause.specs.Cause.{candOf}
 use Rattle.cells.specs.declared.Cell.{Cell}
 use Rattle.event_queue.specs.Queue.{Slots}
 use Rattle.tips.specs.Tips.{Tip, tipIn, withCell}

@@ -9,7 +9,7 @@ use Rattle.rule.specs.declared.Row.{Row}
 use Rattle.rule.specs.EdgeTime.{rim}
 use Rattle.rule.specs.Selection.{rollOf}
 use Rattle.rule.specs.Meanwhile.{Progress}
-use Rattle.causes.specs.Cause.{tipAt}
+use Rattle.cause.specs.Cause.{tipAt}
 use Rattle.cells.specs.declared.Cell.{Cell}
 use Rattle.cells.specs.Grid.{Figure, side}
 use Rattle.cells.specs.Entered.{Entered}

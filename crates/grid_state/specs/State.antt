@@ -5,7 +5,7 @@ use mathlib.Core.Option.{none, some}
 use mathlib.Core.List.{List, [], _∷_}
 use Prim.Native.Nat.{ℕ, _+_, _*_, _≤_, _<_}
 use lib.ListN.{length, getD}
-use Rattle.exact.specs.Time.{Time, _≤ᵗ_}
+use Rattle.fraction.specs.Time.{Time, _≤ᵗ_}
 use Rattle.sheet.specs.declared.Track.{Track}
 use Rattle.sheet.specs.declared.Wall.{Wall}
 use Rattle.sheet.specs.Listing.{Listing, _∈_}
@@ -15,9 +15,9 @@ use Rattle.rule.specs.Contact.{when, hit, contact}
 use Rattle.rule.specs.EdgeTime.{rim}
 use Rattle.rule.specs.WallTime.{wallTime}
 use Rattle.rule.specs.Meanwhile.{Beats}
-use Rattle.causes.specs.declared.Cause.{Cause}
-use Rattle.causes.specs.Cause.{tipAt, wallAt, candOf, Fine, Stands}
-use Rattle.causes.specs.Looked.{Near}
+use Rattle.cause.specs.declared.Cause.{Cause}
+use Rattle.cause.specs.Cause.{tipAt, wallAt, candOf, Fine, Stands}
+use Rattle.cause.specs.Looked.{Near}
 use Rattle.cells.specs.declared.Cell.{Cell}
 use Rattle.cells.specs.Touched.{CellsOf}
 use Rattle.cells.specs.Cut.{past, _<ᶜ_}

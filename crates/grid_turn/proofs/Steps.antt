@@ -5,8 +5,8 @@ use Prim.Native.Nat.{ℕ}
 use Rattle.sheet.specs.declared.Track.{Track}
 use Rattle.sheet.specs.Listing.{Listing}
 use Rattle.rule.specs.declared.Ending.{Ending}
-use Rattle.causes.specs.declared.Cause.{Cause}
-use Rattle.causes.specs.Cause.{Fine}
+use Rattle.cause.specs.declared.Cause.{Cause}
+use Rattle.cause.specs.Cause.{Fine}
 use Rattle.ending.specs.Ended.{EndingOf}
 use Rattle.tips.specs.Tips.{Tip, tipIn}
 use Rattle.look.specs.Tracks.{LookedAgain}

@@ -13,7 +13,7 @@ use Rattle.rule.specs.declared.Ending.the-variants.{ByWall, Edge}
 use Rattle.rule.specs.declared.Row.{Row}
 use Rattle.rule.specs.RowBytes.{rowBytes, rowWidth}
 use Rattle.row.specs.RowAt.{rowAt}
-use Rattle.causes.specs.Cause.{tipAt}
+use Rattle.cause.specs.Cause.{tipAt}
 use Rattle.ending.specs.Ended.{EndingOf, strikes, leaves, nextRow}
 use Rattle.ending.proofs.Endings.{ending-is}
 use Rattle.cells.specs.Grid.{Figure, g1, g2, g4, g8, g16, g32, side}

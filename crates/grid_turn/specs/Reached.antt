@@ -7,7 +7,7 @@ use Prim.Native.Nat.{ℕ, _+_, _<_}
 use lib.ListN.{getD, set}
 use Rattle.sheet.specs.Listing.{Listing}
 use Rattle.rule.specs.declared.Ending.{Ending}
-use Rattle.causes.specs.Cause.{Fine}
+use Rattle.cause.specs.Cause.{Fine}
 use Rattle.ending.specs.Ended.{EndingOf}
 use Rattle.ending.specs.Finished.{MayEnd, Finished}
 use Rattle.event_queue.specs.Queue.{Free}

@@ -8,8 +8,8 @@ use native.Mathlib.Omega.{arith}
 use borrow.Author.Tests.{eq-eqb, ne-eqb}
 use lib.Dec.{ltb}
 use lib.ListN.{length}
-use Rattle.exact.specs.Time.{Time, _≤ᵗ_, _<ᵗ_, fraction}
-use Rattle.exact.proofs.TimeOrder.{≈ᵗ-sym, ≈ᵗ→≤ᵗ, ≤ᵗ-trans, <ᵗ-≤ᵗ-trans, <ᵗ-irrefl, fraction-before, fraction-not-before}
+use Rattle.fraction.specs.Time.{Time, _≤ᵗ_, _<ᵗ_, fraction}
+use Rattle.fraction.proofs.TimeOrder.{≈ᵗ-sym, ≈ᵗ→≤ᵗ, ≤ᵗ-trans, <ᵗ-≤ᵗ-trans, <ᵗ-irrefl, fraction-before, fraction-not-before}
 use Rattle.sheet.specs.Accepted.{Accepted}
 use Rattle.sheet.specs.Listing.{Listing, _∈_}
 use Rattle.sheet.specs.declared.Track.{Track}
@@ -18,9 +18,9 @@ use Rattle.rule.specs.Contact.{contact}
 use Rattle.rule.proofs.OnSheet.{contact-of, contact-hit}
 use Rattle.rule.proofs.Selection.{up-fresh}
 use Rattle.rule.specs.Meanwhile.{Formal, Live}
-use Rattle.causes.specs.declared.Cause.{Cause}
-use Rattle.causes.specs.Cause.{tipAt, whyOf, candOf, Fine, Stands}
-use Rattle.causes.proofs.Looking.{walls-live}
+use Rattle.cause.specs.declared.Cause.{Cause}
+use Rattle.cause.specs.Cause.{tipAt, whyOf, candOf, Fine, Stands}
+use Rattle.cause.proofs.Looking.{walls-live}
 use Rattle.tips.specs.Tips.{Tip, tipIn}
 use Rattle.look.specs.Ends.{endOf, Ends}
 use Rattle.look.specs.Counts.{Counts, no-track, runs, passed, MayTell, void, stale, Stale}

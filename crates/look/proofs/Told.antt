@@ -5,8 +5,8 @@ use mathlib.Core.Path.{_≡_, sym, ap, _∙_, subst}
 use Prim.Native.Nat.{ℕ, _*_, _<_}
 use borrow.Author.Tests.{leb-true, leb-false, lt-ltb, le-ltb}
 use lib.Dec.{leb, ltb}
-use Rattle.exact.specs.Small.{Small}
-use Rattle.causes.specs.declared.Cause.{Cause}
+use Rattle.fraction.specs.Small.{Small}
+use Rattle.cause.specs.declared.Cause.{Cause}
 use Rattle.tips.specs.Tips.{Tip, tipIn}
 use Rattle.look.specs.Counts.{MayTell, void, stale}
 use Rattle.look.proofs.Counting.{void-class, void-runs, void-ended, stale-runs, stale-ended}

@@ -6,7 +6,7 @@ use Prim.Native.Nat.{ℕ, _+_, _<_}
 use native.Mathlib.Decide.{ℕ-discrete}
 use native.Mathlib.Omega.{arith}
 use lib.ListN.{length, getD}
-use Rattle.exact.specs.Small.{Small}
+use Rattle.fraction.specs.Small.{Small}
 use Rattle.sheet.specs.Accepted.{Accepted, TrackOk}
 use Rattle.sheet.specs.HandedIn.{noTrack}
 use Rattle.sheet.specs.Listing.{Listing}
@@ -14,11 +14,11 @@ use Rattle.sheet.specs.declared.Track.{Track}
 use Rattle.sheet.proofs.Lists.{mem-at}
 use Rattle.rule.specs.declared.Row.{Row}
 use Rattle.contact.specs.declared.Touch.{Touch}
-use Rattle.causes.specs.declared.Cause.{Cause}
-use Rattle.causes.specs.Cause.{tipAt, Fine, Stands}
-use Rattle.causes.specs.Offer.{Reached, Taken, TipOffered}
-use Rattle.causes.specs.Looked.{FirstOfTracks}
-use Rattle.causes.proofs.Looking.{tip-looked, then, fewer, none, tip-fine}
+use Rattle.cause.specs.declared.Cause.{Cause}
+use Rattle.cause.specs.Cause.{tipAt, Fine, Stands}
+use Rattle.cause.specs.Offer.{Reached, Taken, TipOffered}
+use Rattle.cause.specs.Looked.{FirstOfTracks}
+use Rattle.cause.proofs.Looking.{tip-looked, then, fewer, none, tip-fine}
 use Rattle.tips.specs.Tips.{Tip, tipIn}
 use Rattle.look.specs.Ends.{Ends}
 use Rattle.look.specs.Tracks.{Flagged, MayLookOn, TracksLooked}

@@ -4,10 +4,10 @@ use mathlib.Core.Bool.{Bool, true, false, cond}
 use mathlib.Core.List.{List}
 use Prim.Native.Nat.{ℕ, _*_, _<_}
 use lib.Dec.{eqb, ltb}
-use Rattle.exact.specs.Time.{_≤ᵗ_, fraction}
-use Rattle.exact.specs.Small.{Small}
-use Rattle.causes.specs.declared.Cause.{Cause}
-use Rattle.causes.specs.Cause.{Fine}
+use Rattle.fraction.specs.Time.{_≤ᵗ_, fraction}
+use Rattle.fraction.specs.Small.{Small}
+use Rattle.cause.specs.declared.Cause.{Cause}
+use Rattle.cause.specs.Cause.{Fine}
 use Rattle.tips.specs.Tips.{Tip, tipIn}
 use Rattle.look.specs.Ends.{endOf}
 

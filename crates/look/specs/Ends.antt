@@ -3,12 +3,12 @@ use mathlib.Core.Path.{_≡_}
 use mathlib.Core.List.{List}
 use Prim.Native.Nat.{ℕ, _<_}
 use lib.ListN.{length}
-use Rattle.exact.specs.Time.{Time, fraction}
+use Rattle.fraction.specs.Time.{Time, fraction}
 use Rattle.sheet.specs.Listing.{Listing}
 use Rattle.rule.specs.declared.Row.{Row}
 use Rattle.rule.specs.Meanwhile.{Fresh}
-use Rattle.causes.specs.Cause.{tipAt}
-use Rattle.causes.specs.Looked.{Gone}
+use Rattle.cause.specs.Cause.{tipAt}
+use Rattle.cause.specs.Looked.{Gone}
 use Rattle.tips.specs.Tips.{Tip, tipIn}
 
 -- when a tip that has ended did

@@ -4,12 +4,12 @@ use mathlib.Core.Logic.{_≢_}
 use mathlib.Core.List.{List}
 use Prim.Native.Nat.{ℕ, _<_}
 use lib.ListN.{length, getD}
-use Rattle.exact.specs.Small.{Small}
+use Rattle.fraction.specs.Small.{Small}
 use Rattle.sheet.specs.Listing.{Listing}
 use Rattle.rule.specs.declared.Row.{Row}
-use Rattle.causes.specs.declared.Cause.{Cause}
-use Rattle.causes.specs.Cause.{tipAt, Fine, Stands}
-use Rattle.causes.specs.Looked.{FirstOfTracks}
+use Rattle.cause.specs.declared.Cause.{Cause}
+use Rattle.cause.specs.Cause.{tipAt, Fine, Stands}
+use Rattle.cause.specs.Looked.{FirstOfTracks}
 use Rattle.tips.specs.Tips.{Tip, tipIn, withBest}
 use Rattle.look.specs.Ends.{Ends}
 

@@ -2,7 +2,7 @@
 use Prim.Native.Nat.{ℕ}
 use mathlib.Core.Path.{_≡_, refl}
 use mathlib.Core.List.{List, [], _∷_}
-use Rattle.layout.specs.Bytes.{leOf}
+use Rattle.byte_order.specs.Bytes.{leOf}
 use Rattle.rule.specs.declared.Ending.the-variants.{ByTrack, Meeting, ByWall, Edge}
 use Rattle.names.specs.NameList.{wholeEntries, entriesOf, firstNamed, nameOf}
 use Rattle.names.specs.Partner.{ofTracks, ofWalls, partnerName}

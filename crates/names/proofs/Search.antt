@@ -6,8 +6,8 @@ use native.Mathlib.Omega.{arith}
 use lib.ListN.{length, take, drop, length-take, length-drop}
 use lib.Seq.{drop-drop}
 use borrow.Author.Tests.{eq-eqb, ne-eqb}
-use Rattle.layout.specs.Bytes.{leOf}
-use Rattle.layout.proofs.Bytes.{le-drop}
+use Rattle.byte_order.specs.Bytes.{leOf}
+use Rattle.byte_order.proofs.Bytes.{le-drop}
 use Rattle.names.specs.declared.Found.{Found}
 use Rattle.names.specs.declared.Found.the-variants.{At, Nothing}
 use Rattle.names.specs.NameList.{Entry, entry, entryWidth, entriesOf, firstNamed, nameOf}

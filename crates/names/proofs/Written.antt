@@ -6,8 +6,8 @@ use native.Mathlib.Decide.{decLe}
 use native.Mathlib.Omega.{arith}
 use lib.ListN.{length, take, drop, length-append, length-take, length-drop, take-append-drop}
 use lib.Seq.{take-at, drop-at, getD-drop}
-use Rattle.layout.specs.Bytes.{leBytes, leOf, AllBytes}
-use Rattle.layout.proofs.Bytes.{le-length, le-back, le-bound, field-write}
+use Rattle.byte_order.specs.Bytes.{leBytes, leOf, AllBytes}
+use Rattle.byte_order.proofs.Bytes.{le-length, le-back, le-bound, field-write}
 use Rattle.names.specs.NameList.{Entry, entryBytes, listBytes, entryWidth, entryIn, entriesOf}
 use Rattle.names.proofs.Entries.{whole-front, cut-front}
 

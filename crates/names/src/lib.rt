@@ -5,8 +5,8 @@ ghost use Rattle.names.specs.Partner.{partnerName, IsPart, IsNamed};
 
 pub mod place; // place.rt: where the name lies
 
-use layout::get;
-use layout::get16;
+use byte_order::get;
+use byte_order::get16;
 use rule::Ending;
 
 // Where a name lies in its list.

@@ -4,7 +4,7 @@ use mathlib.Core.List.{List, _++_}
 use Prim.Native.Nat.{ℕ, _≤_}
 use native.Mathlib.Omega.{arith}
 use lib.ListN.{length, take, drop}
-use Rattle.layout.specs.Bytes.{AllBytes}
+use Rattle.byte_order.specs.Bytes.{AllBytes}
 use Rattle.sheet.specs.Lent.{andThen}
 use Rattle.sheet.specs.Listing.{Listing, listing}
 use Rattle.sheet.specs.Returned.{Returned, accepted, gives, refused}

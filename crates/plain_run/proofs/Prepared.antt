@@ -13,7 +13,7 @@ use denote.Array.{each}
 use denote.Laws.{Is}
 use denote.Shadow.{shadow}
 use denote.Struct.Declared.{row}
-use Rattle.layout.specs.Bytes.{AllBytes}
+use Rattle.byte_order.specs.Bytes.{AllBytes}
 use Rattle.sheet.specs.declared.Sheet.{Sheet}
 use Rattle.sheet.specs.declared.Track.{Track}
 use Rattle.sheet.specs.declared.Wall.{Wall}
@@ -26,7 +26,7 @@ use Rattle.sheet.specs.Scan.{verdictOf, commandsOf}
 use Rattle.sheet.proofs.Sheet.{the-type}
 use Rattle.sheet.proofs.Lists.{take-in, sized}
 use Rattle.sheet.proofs.RoundTrip.{all-fit, accepted-exactly, accepted-records, listed, handed-back}
-use Rattle.reader.specs.Reading.{ifAccepted, recordsOf}
+use Rattle.sheet_reader.specs.Reading.{ifAccepted, recordsOf}
 use Rattle.records.specs.Records.{Handed}
 
 -- what the type of an array's elements says of each

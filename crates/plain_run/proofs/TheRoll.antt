@@ -3,7 +3,7 @@ use mathlib.Core.Path.{_≡_, refl, ap, _∙_}
 use mathlib.Core.List.{List, _++_}
 use Prim.Native.Nat.{ℕ, _*_, _≤_}
 use lib.ListN.{length, drop}
-use Rattle.layout.specs.Bytes.{AllBytes}
+use Rattle.byte_order.specs.Bytes.{AllBytes}
 use Rattle.sheet.specs.Accepted.{Accepted}
 use Rattle.sheet.specs.Listing.{Listing, listing}
 use Rattle.sheet.specs.Returned.{accepted}

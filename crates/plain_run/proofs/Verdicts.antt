@@ -10,7 +10,7 @@ use Rattle.sheet.specs.Listing.{Listing}
 use Rattle.sheet.specs.Returned.{Returned, accepted, refused}
 use Rattle.sheet.proofs.Decided.{decided}
 use Rattle.sheet.proofs.Lent.{said-given, put, gave, refused-so}
-use Rattle.writer.proofs.Counts.{few}
+use Rattle.sheet_writer.proofs.Counts.{few}
 use Rattle.rule.specs.RowBytes.{rollBytes, longestRoll}
 use Rattle.rule.specs.Selection.{rollOf}
 use Rattle.sheet.specs.declared.Answer.{Answer}

@@ -20,7 +20,7 @@ fn rows(sheet: Sheet, out: &mut [u8]) -> Answer
     if out.len() < needed {
         return Answer::Refused(OUTPUT_TOO_SHORT, needed);
     }
-    plain::roll(sheet, out);
+    plain_turns::roll(sheet, out);
     Answer::Gives(n)
 }
 
@@ -28,7 +28,7 @@ fn rows(sheet: Sheet, out: &mut [u8]) -> Answer
 pub fn plain_roll(sheet: Sheet, out: &mut [u8]) -> Answer
     ensures { λ r. ⌜ Rolls (checkOf sheet) (handedIn sheet) (now (out .entry)) (now (out .exit)) r ⌝ }
 {
-    let v = writer::check(sheet);
+    let v = sheet_writer::check(sheet);
     match v {
         Verdict::Refused(number, place) => Answer::Refused(number, place),
         Verdict::Accepted => rows(sheet, out),
@@ -39,7 +39,7 @@ pub fn plain_roll(sheet: Sheet, out: &mut [u8]) -> Answer
 pub fn plain_roll_bytes(s: &[u8], out: &mut [u8]) -> Answer
     ensures { λ r. ⌜ Rolls (verdictOf (now (s .entry))) (listing (commandsOf (now (s .entry)))) (now (out .entry)) (now (out .exit)) r ⌝ }
 {
-    let r = reader::read(s);
+    let r = sheet_reader::read(s);
     let v = r.verdict;
     let sheet = r.sheet;
     match v {

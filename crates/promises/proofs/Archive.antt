@@ -5,10 +5,10 @@ use Prim.Native.Nat.{ℕ, suc, pred, _+_, _*_, _≤_, _<_}
 use native.Mathlib.Omega.{arith}
 use lib.ListN.{length, take, length-append}
 use lib.Seq.{take-append-seam}
-use Rattle.exact.specs.Lowest.{Lowest}
-use Rattle.exact.specs.Time.{_≈ᵗ_}
-use Rattle.exact.proofs.LowestTerms.{lowest-unique}
-use Rattle.layout.specs.Bytes.{AllBytes}
+use Rattle.fraction.specs.Lowest.{Lowest}
+use Rattle.fraction.specs.Time.{_≈ᵗ_}
+use Rattle.fraction.proofs.LowestTerms.{lowest-unique}
+use Rattle.byte_order.specs.Bytes.{AllBytes}
 use Rattle.sheet.specs.declared.Command.{Command}
 use Rattle.sheet.specs.declared.Command.the-variants.{AddTrack, AddWall}
 use Rattle.sheet.specs.declared.Sheet.{Sheet}
@@ -25,11 +25,11 @@ use Rattle.sheet.proofs.Lent.{said-given, put}
 use Rattle.sheet.proofs.Lists.{perm-length}
 use Rattle.sheet.proofs.Order.{Reordered, accepted-reordered}
 use Rattle.sheet.proofs.RoundTrip.{accepted-records, listed, ordered-same, handed-back, same-sheet}
-use Rattle.reader.specs.declared.Reading.{Reading}
-use Rattle.reader.specs.Reading.{ifAccepted, ReadFrom}
+use Rattle.sheet_reader.specs.declared.Reading.{Reading}
+use Rattle.sheet_reader.specs.Reading.{ifAccepted, ReadFrom}
 use Rattle.sheet.specs.declared.Answer.{Answer}
 use Rattle.sheet.specs.Answer.{answered}
-use Rattle.writer.specs.Written.{formOf}
+use Rattle.sheet_writer.specs.Written.{formOf}
 use Rattle.rule.specs.declared.Row.{Row}
 use Rattle.rule.specs.Rows.{time}
 use Rattle.rule.proofs.Existence.{roll-of}

@@ -19,7 +19,7 @@ use Rattle.sheet.proofs.Lent.{said-given, said-short}
 use Rattle.sheet.proofs.Lists.{perm-mem}
 use Rattle.sheet.proofs.Order.{Reordered, reordered, accepted-reordered}
 use Rattle.sheet.proofs.RoundTrip.{AllFit, order-verdict, read-back, listed, handed-back}
-use Rattle.reader.specs.Reading.{ifAccepted, recordsOf}
+use Rattle.sheet_reader.specs.Reading.{ifAccepted, recordsOf}
 use Rattle.rule.specs.declared.Row.{Row}
 use Rattle.rule.specs.RowBytes.{rollBytes, rowWidth}
 use Rattle.rule.specs.Selection.{rollOf}

@@ -4,8 +4,8 @@ use mathlib.Core.Path.{_≡_, sym, ap, _∙_, subst}
 use mathlib.Core.List.{List}
 use Prim.Native.Nat.{ℕ}
 use native.Mathlib.Omega.{arith}
-use Rattle.exact.proofs.Bounds.{within-fits}
-use Rattle.layout.specs.Bytes.{AllBytes}
+use Rattle.fraction.proofs.Bounds.{within-fits}
+use Rattle.byte_order.specs.Bytes.{AllBytes}
 use Rattle.sheet.specs.declared.Command.{Command}
 use Rattle.sheet.specs.declared.Sheet.{Sheet}
 use Rattle.sheet.specs.declared.Track.{Track}

@@ -4,8 +4,8 @@ use mathlib.Core.Path.{_≡_}
 use mathlib.Core.List.{List, List·Permᴰ}
 use Prim.Native.Nat.{ℕ, _≤_, _<_}
 use lib.ListN.{length, take}
-use Rattle.exact.specs.Lowest.{Lowest}
-use Rattle.exact.specs.Time.{_≈ᵗ_}
+use Rattle.fraction.specs.Lowest.{Lowest}
+use Rattle.fraction.specs.Time.{_≈ᵗ_}
 use Rattle.sheet.specs.declared.Command.{Command}
 use Rattle.sheet.specs.declared.Sheet.{Sheet}
 use Rattle.sheet.specs.Accepted.{Accepted}
@@ -13,11 +13,11 @@ use Rattle.sheet.specs.HandedIn.{handedIn}
 use Rattle.sheet.specs.Listing.{listing}
 use Rattle.sheet.specs.Returned.{accepted, gives, verdict}
 use Rattle.sheet.specs.Scan.{commandsOf}
-use Rattle.reader.specs.declared.Reading.{Reading}
-use Rattle.reader.specs.Reading.{ReadFrom}
+use Rattle.sheet_reader.specs.declared.Reading.{Reading}
+use Rattle.sheet_reader.specs.Reading.{ReadFrom}
 use Rattle.sheet.specs.declared.Answer.{Answer}
 use Rattle.sheet.specs.Answer.{answered}
-use Rattle.writer.specs.Written.{writeOf, bufferAfter}
+use Rattle.sheet_writer.specs.Written.{writeOf, bufferAfter}
 use Rattle.rule.specs.declared.Row.{Row}
 use Rattle.rule.specs.Rows.{time}
 use Rattle.promises.specs.Runs.{InRoll}

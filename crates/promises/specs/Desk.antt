@@ -14,7 +14,7 @@ use Rattle.sheet.specs.Listing.{listing}
 use Rattle.sheet.specs.Ordered.{commandsIn}
 use Rattle.sheet.specs.Returned.{accepted, gives, verdict}
 use Rattle.sheet.specs.Scan.{verdictOf}
-use Rattle.reader.specs.Reading.{recordsOf}
+use Rattle.sheet_reader.specs.Reading.{recordsOf}
 use Rattle.rule.specs.declared.Row.{Row}
 use Rattle.rule.specs.Roll.{RollOf}
 use Rattle.rule.specs.RowBytes.{rollBytes, rowWidth}

@@ -8,7 +8,7 @@ use borrow.Author.Tests.{eqb-true, ltb-true, ltb-false, leb-false, lt-leb, le-le
 use lib.Dec.{eqb, ltb}
 use lib.ListN.{length, getD, take, length-append}
 use lib.Seq.{length-take-le, getD-take, take-all}
-use Rattle.layout.proofs.Bytes.{le-take}
+use Rattle.byte_order.proofs.Bytes.{le-take}
 use Rattle.sheet.specs.declared.Track.{Track}
 use Rattle.sheet.specs.declared.Wall.{Wall}
 use Rattle.sheet.specs.declared.Command.{Command}

@@ -5,7 +5,7 @@ use mathlib.Core.Logic.{_⊎_, _≢_}
 use mathlib.Core.List.{List, [], _∷_, _++_}
 use Prim.Native.Nat.{ℕ, _+_, _≤_, _<_}
 use lib.ListN.{length}
-use Rattle.exact.specs.Time.{Time, _≤ᵗ_, _<ᵗ_, _≈ᵗ_, zeroᵗ}
+use Rattle.fraction.specs.Time.{Time, _≤ᵗ_, _<ᵗ_, _≈ᵗ_, zeroᵗ}
 use Rattle.sheet.specs.declared.Track.{Track}
 use Rattle.sheet.specs.Listing.{Listing, _∈_}
 use Rattle.rule.specs.declared.Row.{Row}

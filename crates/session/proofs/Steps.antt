@@ -8,7 +8,7 @@ use native.Mathlib.Nat.{zero-min}
 use native.Mathlib.Omega.{arith}
 use lib.ListN.{length, take, drop, length-take, length-drop}
 use lib.Seq.{take-at, take-add}
-use Rattle.layout.specs.Bytes.{AllBytes}
+use Rattle.byte_order.specs.Bytes.{AllBytes}
 use Rattle.sheet.specs.declared.Sheet.{Sheet}
 use Rattle.sheet.specs.Listing.{Listing, listing}
 use Rattle.sheet.specs.Returned.{Returned, accepted, gives, refused, verdict}
@@ -17,7 +17,7 @@ use Rattle.sheet.specs.HandedIn.{handedIn, listedForm, checkOf, sheetOf}
 use Rattle.sheet.proofs.Decided.{decided}
 use Rattle.sheet.proofs.Lent as ending
 use Rattle.sheet.proofs.RoundTrip.{handed-back, written-read}
-use Rattle.reader.specs.Reading.{ifAccepted, recordsOf}
+use Rattle.sheet_reader.specs.Reading.{ifAccepted, recordsOf}
 use Rattle.rule.specs.declared.Row.{Row}
 use Rattle.rule.specs.RowBytes.{rollBytes, rowWidth}
 use Rattle.rule.specs.Selection.{rollOf}

@@ -5,7 +5,7 @@ ghost use Prim.Native.Nat.{min};
 ghost use Rattle.sheet.specs.Returned.{verdict};
 ghost use Rattle.sheet.specs.Scan.{verdictOf};
 ghost use Rattle.sheet.specs.HandedIn.{checkOf, sheetOf};
-ghost use Rattle.reader.specs.Reading.{recordsOf};
+ghost use Rattle.sheet_reader.specs.Reading.{recordsOf};
 ghost use Rattle.sheet.specs.Answer.{answered};
 ghost use Rattle.session.specs.Stepping.{begun, restart, Begins, Advances, runningOf};
 use sheet::Answer;
@@ -51,7 +51,7 @@ impl Session {
     pub fn open(s: &[u8]) -> Begun
         ensures { λ r. ⌜ Begins (verdictOf (now (s .entry))) (begun (sheetOf (recordsOf (now (s .entry))))) r ⌝ }
     {
-        let r = reader::read(s);
+        let r = sheet_reader::read(s);
         let sheet = r.sheet;
         let answer = r.verdict;
         begin(sheet, answer)
@@ -61,7 +61,7 @@ impl Session {
     pub fn open_records(sheet: Sheet) -> Begun
         ensures { λ r. ⌜ Begins (checkOf sheet) (begun sheet) r ⌝ }
     {
-        let verdict = writer::check(sheet);
+        let verdict = sheet_writer::check(sheet);
         begin(sheet, verdict)
     }
 
@@ -106,7 +106,7 @@ impl Session {
         ensures { λ r. ⌜ Begins (checkOf (self .sheet)) (restart (checkOf (self .sheet)) self) r ⌝ }
     {
         let sheet = self.sheet;
-        let answer = writer::check(sheet);
+        let answer = sheet_writer::check(sheet);
         match answer {
             Verdict::Refused(_, _) => Begun {
                 session: self,
@@ -124,7 +124,7 @@ impl Session {
         ensures { λ r. ⌜ answered r ≡ runningOf (checkOf (self .sheet)) self ⌝ }
     {
         let sheet = self.sheet;
-        let v = writer::check(sheet);
+        let v = sheet_writer::check(sheet);
         match v {
             Verdict::Refused(number, place) => Answer::Refused(number, place),
             Verdict::Accepted => {

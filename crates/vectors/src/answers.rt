@@ -47,7 +47,7 @@ pub fn print_form(sheet: Sheet) {
     print_number(sheet.nwalls);
     print_text(b" ");
     let mut form = [0u8; sheet::LONGEST_SHEET];
-    let answer = writer::write(sheet, &mut form);
+    let answer = sheet_writer::write(sheet, &mut form);
     match answer {
         Answer::Gives(n) => print_hex(&form, n),
         Answer::Refused(number, place) => print_refusal(number, place),

@@ -3,7 +3,7 @@
 use crate::answers::print_hex;
 use crate::answers::print_number;
 use crate::answers::print_text;
-use layout::get16;
+use byte_order::get16;
 use rule::Ending;
 
 fn ending_of(kind: u8, partner: u16) -> Ending {

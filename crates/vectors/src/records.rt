@@ -8,8 +8,8 @@ use crate::answers::print_form;
 use crate::answers::print_refusal;
 use crate::answers::print_rows;
 use crate::answers::print_text;
-use layout::get16;
-use layout::signed;
+use byte_order::get16;
+use byte_order::signed;
 use sheet::Sheet;
 use sheet::Track;
 use sheet::Verdict;
@@ -115,7 +115,7 @@ fn print_rolls(sheet: Sheet) {
 }
 
 fn print_check(sheet: Sheet) {
-    let verdict = writer::check(sheet);
+    let verdict = sheet_writer::check(sheet);
     match verdict {
         Verdict::Accepted => print_text(b"accepted"),
         Verdict::Refused(number, place) => print_refusal(number, place),

@@ -32,7 +32,7 @@ fn print_rolls(s: &[u8]) {
 }
 
 pub fn answer(s: &[u8]) {
-    let reading = reader::read(s);
+    let reading = sheet_reader::read(s);
     let verdict = reading.verdict;
     match verdict {
         Verdict::Accepted => {

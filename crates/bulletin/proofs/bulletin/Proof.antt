@@ -3,7 +3,7 @@ use Prim.Native.Nat.{ℕ, _*_}
 use native.Mathlib.Omega.{arith}
 use lib.ListN.{length-replicate}
 use borrow.Author.Needs.{needs}
-use Rattle.layout.proofs.Bytes.{slice-bytes}
+use Rattle.byte_order.proofs.Bytes.{slice-bytes}
 use Rattle.rule.specs.RowBytes.{rowWidth}
 use Rattle.page.proofs.Putting.{and-behind, within}
 use Rattle.bulletin.proofs.Told.{rows-read, as-refused, tells, tells-refusal}

@@ -1,7 +1,7 @@
 -- Each way out by one law: the sheet is refused, or the session just opened advances.
 use borrow.Author.Needs.{needs}
 use mathlib.Core.Path.{refl, sym, ap, _∙_}
-use Rattle.layout.proofs.Bytes.{slice-bytes}
+use Rattle.byte_order.proofs.Bytes.{slice-bytes}
 use Rattle.sheet.specs.Returned.{verdict}
 use Rattle.bulletin.proofs.Shown.{not-opened, opened}
 use Rattle.bulletin.proofs.first_rows.Statement.{statement}

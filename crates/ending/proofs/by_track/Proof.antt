@@ -1,7 +1,7 @@
 -- `by_track` says whether the tip meets the other, or comes to its trace later.
 use mathlib.Core.Path.{sym, ap, _∙_}
 use Rattle.rule.specs.declared.Ending.the-variants.{ByTrack, Meeting}
-use Rattle.causes.proofs.First.{not-later, later}
+use Rattle.cause.proofs.First.{not-later, later}
 use Rattle.ending.specs.Ended.{meets, crosses}
 use borrow.Author.Needs.{needs}
 use Rattle.ending.proofs.by_track.Statement.{statement}

@@ -2,7 +2,7 @@
 use borrow.Author.Needs.{needs}
 use native.Mathlib.Omega.{arith}
 use mathlib.Core.Path.{sym, ap, _∙_}
-use Rattle.layout.proofs.Bytes.{slice-bytes}
+use Rattle.byte_order.proofs.Bytes.{slice-bytes}
 use Rattle.sheet.specs.Returned.{verdict}
 use Rattle.fissures_c.proofs.Stepped.{fits, as-judged, advanced}
 use Rattle.fissures_c.proofs.fissure_advance.Statement.{statement}

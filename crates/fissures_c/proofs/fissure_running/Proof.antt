@@ -1,7 +1,7 @@
 -- Each way out by one law.
 use borrow.Author.Needs.{needs}
 use mathlib.Core.Path.{sym, ap, _∙_}
-use Rattle.layout.proofs.Bytes.{slice-bytes}
+use Rattle.byte_order.proofs.Bytes.{slice-bytes}
 use Rattle.sheet.specs.Returned.{verdict}
 use Rattle.fissures_c.proofs.Stepped.{not-running, running}
 use Rattle.fissures_c.proofs.fissure_running.Statement.{statement}

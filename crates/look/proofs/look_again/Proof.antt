@@ -2,7 +2,7 @@
 use mathlib.Core.Path.{sym, subst}
 use native.Mathlib.Omega.{arith}
 use borrow.Author.Needs.{needs}
-use Rattle.causes.specs.declared.Cause.{Cause}
+use Rattle.cause.specs.declared.Cause.{Cause}
 use Rattle.records.specs.Records.{sheetIn}
 use Rattle.tips.specs.Tips.{tipsIn}
 use Rattle.look.specs.Tracks.{MayLookOn, TracksLooked}

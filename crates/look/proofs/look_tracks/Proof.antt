@@ -5,7 +5,7 @@ use Prim.Native.Nat.{_+_, _≤_, _<_, _-_}
 use lib.ListN.{length}
 use mathlib.Core.Path.{sym, subst}
 use mathlib.Core.Logic.{⊎-elim}
-use Rattle.causes.proofs.Answers.{reached-small}
+use Rattle.cause.proofs.Answers.{reached-small}
 use Rattle.records.specs.Records.{sheetIn}
 use Rattle.tips.specs.Tips.{tipsIn}
 use Rattle.look.proofs.Tracks.{TracksUpTo, track-ok, end-small, tracks-start, offers, track-turn, track-skipped, tracks-end}

@@ -3,7 +3,7 @@ use Prim.Native.Nat.{ℕ}
 use native.Mathlib.Omega.{arith}
 use lib.ListN.{length-replicate}
 use borrow.Author.Needs.{needs}
-use Rattle.layout.proofs.Bytes.{slice-bytes}
+use Rattle.byte_order.proofs.Bytes.{slice-bytes}
 use Rattle.rule.specs.RowBytes.{longestRoll}
 use Rattle.page.proofs.Answered.{rows-read, as-refused, prints-roll, prints-refusal}
 use Rattle.page.proofs.Putting.{and-behind, within}

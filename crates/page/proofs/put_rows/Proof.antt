@@ -3,7 +3,7 @@ use mathlib.Core.Path.{_≡_, sym, _∙_, subst}
 use Prim.Native.Nat.{ℕ, _+_, _*_, _-_, _≤_}
 use native.Mathlib.Omega.{arith}
 use borrow.Author.Needs.{needs}
-use Rattle.layout.proofs.Bytes.{slice-bytes}
+use Rattle.byte_order.proofs.Bytes.{slice-bytes}
 use Rattle.row.specs.Stored.{rowsIn}
 use Rattle.row.proofs.ReadBack.{found-fits}
 use Rattle.text.specs.Lines.{longestLine}

@@ -1,6 +1,6 @@
 -- Each field by its bytes.
 use mathlib.Core.Path.{ap}
-use Rattle.exact.specs.declared.Fraction.{Fraction}
+use Rattle.fraction.specs.declared.Fraction.{Fraction}
 use Rattle.row.specs.Stored.{rowFrom}
 use borrow.Author.Needs.{needs}
 use Rattle.row.proofs.row_from.Statement.{statement}

@@ -1,0 +1,79 @@
+-- Which of two causes comes first. Main theorems: `not-later` and `later` (the code's test of two times), `first-of` (the first of two comes before both).
+use mathlib.Core.Bool.{Bool, true, false, true≢false}
+use mathlib.Core.Logic.{inl, inr}
+use mathlib.Core.Path.{_≡_, refl, sym, subst}
+use Prim.Native.Nat.{ℕ, suc, pred, _*_}
+use native.Mathlib.Omega.{arith}
+use lib.Dec.{leb}
+use borrow.Author.Tests.{leb-true, leb-false}
+use Rattle.fraction.specs.Time.{_≤ᵗ_, _<ᵗ_, fraction}
+use Rattle.fraction.proofs.TimeOrder.{≈ᵗ-refl}
+use Rattle.sheet.specs.Listing.{Listing}
+use Rattle.sheet.specs.declared.Track.{Track}
+use Rattle.fraction.specs.Small.{Small}
+use Rattle.contact.specs.declared.Touch.{Touch}
+use Rattle.contact.specs.declared.Touch.the-variants.{Hit}
+use Rattle.rule.specs.Causes as rule
+use Rattle.rule.specs.Causes.{Cand, _≼_}
+use Rattle.cause.specs.declared.Cause.{Cause}
+use Rattle.cause.specs.Cause.{candOf, Stands, Comes, in-time, in-class, in-id, Tells, Least}
+use Rattle.cause.specs.Offer.{tipCause, Taken}
+
+module _ {n d m e : ℕ} (p : Small n d) (q : Small m e) where
+  pub not-later : leb (n * e) (m * d) ≡ true → fraction n d ≤ᵗ fraction m e
+  not-later h =
+      let x : suc (pred d) ≡ d = omega arith in
+      let y : suc (pred e) ≡ e = omega arith in
+      record { le = rw (x, y) (leb-true (n * e) (m * d) h) }
+
+  pub later : leb (n * e) (m * d) ≡ false → fraction m e <ᵗ fraction n d
+  later h =
+      let x : suc (pred d) ≡ d = omega arith in
+      let y : suc (pred e) ≡ e = omega arith in
+      record { lt = rw (x, y) (leb-false (n * e) (m * d) h) }
+
+pub ≼-self : (c : Cand) → c ≼ c
+≼-self c = rule.in-id (≈ᵗ-refl (c .u)) refl (omega arith)
+
+module _ {a b : Cause} where
+  pub tells-first : Comes a b → Tells a b true
+  tells-first h = record { first = λ e. h; second = λ e. absurd (true≢false e) }
+
+  pub tells-second : Comes b a → Tells a b false
+  tells-second h = record { first = λ e. absurd (true≢false (sym e)); second = λ e. h }
+
+  pub least-first : {r : Bool} → Tells a b r → r ≡ true → Least a b a
+  least-first h e = inl (refl, h .first e)
+
+  pub least-second : {r : Bool} → Tells a b r → r ≡ false → Least a b b
+  least-second h e = inr (refl, h .second e)
+
+module _ (S : Listing) (t : Track) {a b : Cause} (p : Stands S t a) (q : Stands S t b) where
+  pub comes-below : Comes a b → candOf S a ≼ candOf S b
+  comes-below (in-time h) = rule.in-time h
+  comes-below (in-class h k) = rule.in-class h (omega (arith, p .ranked, q .ranked))
+  comes-below (in-id h k l) = rule.in-id h (omega (arith, p .ranked, q .ranked)) (omega (arith, p .named, q .named))
+
+module _ (S : Listing) (t : Track) {a b r : Cause} (p : Stands S t a) (q : Stands S t b) where
+  pub first-stands : Least a b r → Stands S t r
+  first-stands (inl (e, h)) = subst (Stands S t) (sym e) p
+  first-stands (inr (e, h)) = subst (Stands S t) (sym e) q
+
+  pub first-left : Least a b r → candOf S r ≼ candOf S a
+  first-left (inl (e, h)) = subst (λ (z : Cause). candOf S z ≼ candOf S a) (sym e) (≼-self (candOf S a))
+  first-left (inr (e, h)) = subst (λ (z : Cause). candOf S z ≼ candOf S a) (sym e) (comes-below S t q p h)
+
+  pub first-right : Least a b r → candOf S r ≼ candOf S b
+  first-right (inl (e, h)) = subst (λ (z : Cause). candOf S z ≼ candOf S b) (sym e) (comes-below S t p q h)
+  first-right (inr (e, h)) = subst (λ (z : Cause). candOf S z ≼ candOf S b) (sym e) (≼-self (candOf S b))
+
+  pub first-of : Least a b r → Stands S t r × (candOf S r ≼ candOf S a) × (candOf S r ≼ candOf S b)
+  first-of h = (first-stands h, first-left h, first-right h)
+
+-- a track that the tip comes to: by the answer of the test, c or the track
+module _ (b : Track) (k : ℕ) {c : Cause} {t : Touch} {u ud s sd : ℕ} (hits : t ≡ Hit u ud s sd) {r : Bool} (told : Tells c (tipCause b k u ud s sd) r) where
+  pub taken-first : r ≡ true → Taken b k t c c
+  taken-first e = subst (λ (z : Touch). Taken b k z c c) (sym hits) (least-first told e)
+
+  pub taken-second : r ≡ false → Taken b k t c (tipCause b k u ud s sd)
+  taken-second e = subst (λ (z : Touch). Taken b k z c (tipCause b k u ud s sd)) (sym hits) (least-second told e)

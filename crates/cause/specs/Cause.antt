@@ -1,0 +1,59 @@
+-- What a cause that the code holds stands for in the rule, and which of two comes first.
+use mathlib.Core.Bool.{Bool, true, false}
+use mathlib.Core.Path.{_≡_}
+use mathlib.Core.Logic.{_⊎_}
+use Prim.Native.Nat.{ℕ, zero, suc, _≤_, _<_}
+use lib.ListN.{length, getD}
+use Rattle.fraction.specs.Time.{Time, _<ᵗ_, _≈ᵗ_, fraction}
+use Rattle.sheet.specs.declared.Track.{Track}
+use Rattle.sheet.specs.declared.Wall.{Wall}
+use Rattle.sheet.specs.Listing.{Listing}
+use Rattle.sheet.specs.HandedIn.{noTrack, noWall}
+use Rattle.rule.specs.Causes.{Why, by-tip, by-side, by-rim, Cand, cls, who}
+use Rattle.rule.specs.Meanwhile.{Formal}
+use Rattle.fraction.specs.Small.{Small}
+use Rattle.cause.specs.declared.Cause.{Cause}
+
+-- the track and the wall at a place of the sheet
+abbrev pub tipAt : Listing → ℕ → Track
+tipAt S i = getD (S .tracks) i noTrack
+
+abbrev pub wallAt : Listing → ℕ → Wall
+wallAt S i = getD (S .walls) i noWall
+
+unfoldable pub whyOf : Listing → ℕ → ℕ → Time → Why
+whyOf S zero k s = by-tip (tipAt S k) s
+whyOf S (suc zero) k s = by-side (wallAt S k)
+whyOf S (suc (suc n)) k s = by-rim
+
+abbrev pub candOf : Listing → Cause → Cand
+candOf S c = record { u = fraction (c .u) (c .ud); why = whyOf S (c .class) (c .who) (fraction (c .s) (c .sd)) }
+
+-- its numbers are those of times
+pub record Fine (c : Cause) : Type 0 where
+  pub at : Small (c .u) (c .ud)
+  pub there : Small (c .s) (c .sd)
+
+-- c is a contact, a wall or the edge of tip a, with its class and its partner's id
+pub record Stands (S : Listing) (a : Track) (c : Cause) : Type 0 where
+  pub fine : Fine c
+  pub formal : Formal S a (candOf S c .u) (candOf S c .why)
+  pub ranked : cls (candOf S c .why) ≡ c .class
+  pub named : who (candOf S c .why) ≡ c .id
+  pub known : c .class ≡ 0 → c .who < length (S .tracks)
+  pub id-in : c .id ≤ 65535
+
+-- by time, then tracks, walls and the edge in this order, then by id (SHEETS 4.6, 4.9)
+pub data Comes (a b : Cause) : Type 0 where
+  in-time : fraction (a .u) (a .ud) <ᵗ fraction (b .u) (b .ud) → Comes a b
+  in-class : fraction (a .u) (a .ud) ≈ᵗ fraction (b .u) (b .ud) → a .class < b .class → Comes a b
+  in-id : fraction (a .u) (a .ud) ≈ᵗ fraction (b .u) (b .ud) → a .class ≡ b .class → a .id ≤ b .id → Comes a b
+
+-- r tells which of a and b comes first
+pub record Tells (a b : Cause) (r : Bool) : Type 0 where
+  pub first : r ≡ true → Comes a b
+  pub second : r ≡ false → Comes b a
+
+-- r is the one of a and b that comes first
+abbrev pub Least : Cause → Cause → Cause → Type 0
+Least a b r = ((r ≡ a) × Comes a b) ⊎ ((r ≡ b) × Comes b a)

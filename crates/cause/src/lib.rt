@@ -1,0 +1,180 @@
+// The causes that end a tip, and which of them comes first (SHEETS 4.6, 4.9).
+ghost use mathlib.Core.Path.{_≡_};
+ghost use mathlib.Core.Bool.{true, false};
+ghost use Prim.Native.Nat.{_≤_, _<_};
+ghost use Rattle.sheet.specs.Accepted.{TrackOk, WallOk};
+ghost use Rattle.fraction.specs.Small.{Small};
+ghost use Rattle.contact.specs.Answers.{TouchSmall};
+ghost use Rattle.cause.specs.Cause.{Fine, Tells, Least};
+ghost use Rattle.cause.specs.Offer.{AtEdge, WallOffered, Reached, Taken};
+ghost use Rattle.cause.specs.Looked.{Reaches};
+use contact::Moment;
+use contact::Touch;
+use sheet::Track;
+use sheet::Wall;
+
+// A cause at u / ud. The class is 0 for a track, 1 for a wall, 2 for the edge; id is the partner's, 0 for the edge,
+// who its index among the sheet's tracks or walls; a track was there at s / sd.
+pub struct Cause {
+    pub u: u64,
+    pub ud: u64,
+    pub class: u64,
+    pub id: u64,
+    pub who: u64,
+    pub s: u64,
+    pub sd: u64,
+}
+
+// Does a come before b: by time, then tracks, walls and the edge in this order, then by id (SHEETS 4.6, 4.9)?
+fn ahead(a: Cause, b: Cause) -> bool
+    requires { ⌜ Fine a × Fine b ⌝ }
+    ensures { λ r. ⌜ Tells a b r ⌝ }
+{
+    if contact::not_later(a.u, a.ud, b.u, b.ud) {
+        if contact::not_later(b.u, b.ud, a.u, a.ud) {
+            if a.class < b.class {
+                return true;
+            }
+            if b.class < a.class {
+                return false;
+            }
+            if a.id <= b.id {
+                return true;
+            }
+            return false;
+        }
+        return true;
+    }
+    false
+}
+
+// The cause that comes first.
+pub fn least(a: Cause, b: Cause) -> Cause
+    requires { ⌜ Fine a × Fine b ⌝ }
+    ensures { λ r. ⌜ Least a b r ⌝ }
+{
+    if ahead(a, b) {
+        return a;
+    }
+    b
+}
+
+// The edge, which every tip has for a cause.
+pub fn edge_cause(a: Track) -> Cause
+    requires { ⌜ TrackOk a ⌝ }
+    ensures { λ r. ⌜ AtEdge a r ⌝ }
+{
+    match contact::edge_of(a) {
+        Moment::Never => Cause {
+            u: 0,
+            ud: 1,
+            class: 2,
+            id: 0,
+            who: 0,
+            s: 0,
+            sd: 1,
+        },
+        Moment::At(u, ud) => Cause {
+            u,
+            ud,
+            class: 2,
+            id: 0,
+            who: 0,
+            s: 0,
+            sd: 1,
+        },
+    }
+}
+
+// The first of c and the wall w, the sheet's k-th.
+pub fn with_wall(c: Cause, a: Track, w: Wall, k: usize) -> Cause
+    requires { ⌜ Fine c × TrackOk a × WallOk w ⌝ }
+    ensures { λ r. ⌜ WallOffered a w k c r ⌝ }
+{
+    match contact::wall_of(a, w) {
+        Moment::Never => c,
+        Moment::At(u, ud) => {
+            let id = w.id as u64;
+            let who = k as u64;
+            let found = Cause {
+                u,
+                ud,
+                class: 1,
+                id,
+                who,
+                s: 0,
+                sd: 1,
+            };
+            if ahead(c, found) {
+                return c;
+            }
+            found
+        }
+    }
+}
+
+// Where tip a comes to the trace of b: nowhere if that is its own, or if b's tip ended, at e / ed, before it was there.
+pub fn on_trace(a: Track, b: Track, ended: u64, e: u64, ed: u64) -> Touch
+    requires { ⌜ TrackOk a × TrackOk b × ((ended ≡ 0 → ⊥) → Small e ed) ⌝ }
+    ensures { λ r. ⌜ Reached a b ended e ed r ⌝ }
+{
+    if b.id == a.id {
+        return Touch::Nowhere;
+    }
+    match contact::contact_of(a, b) {
+        Touch::Nowhere => Touch::Nowhere,
+        Touch::Hit { u, ud, s, sd } => {
+            if ended == 0 {
+                return Touch::Hit { u, ud, s, sd };
+            }
+            if contact::not_later(s, sd, e, ed) {
+                return Touch::Hit { u, ud, s, sd };
+            }
+            Touch::Nowhere
+        }
+    }
+}
+
+// The first of c and the track b, the sheet's k-th, which the tip comes to by t. Apart from `on_trace`, so that a tip which comes to nothing costs no copy of c; it tests for itself in place of `least`, since a cause chosen from two places is kept in memory.
+pub fn with_track(c: Cause, b: Track, k: usize, t: Touch) -> Cause
+    requires { ⌜ Fine c × TouchSmall t ⌝ }
+    ensures { λ r. ⌜ Taken b k t c r ⌝ }
+{
+    match t {
+        Touch::Nowhere => c,
+        Touch::Hit { u, ud, s, sd } => {
+            let id = b.id as u64;
+            let who = k as u64;
+            let found = Cause {
+                u,
+                ud,
+                class: 0,
+                id,
+                who,
+                s,
+                sd,
+            };
+            if ahead(c, found) {
+                return c;
+            }
+            found
+        }
+    }
+}
+
+// A part of the sheet: left ≤ x < right, low ≤ y < high.
+pub struct Region {
+    pub left: u64,
+    pub right: u64,
+    pub low: u64,
+    pub high: u64,
+}
+
+// Does the box of two ends come between low and high?
+pub fn reaches(a: u16, b: u16, low: u64, high: u64) -> bool
+    ensures { λ r. ⌜ (r ≡ true → Reaches a b low high) × (r ≡ false → Reaches a b low high → ⊥) ⌝ }
+{
+    let a = a as u64;
+    let b = b as u64;
+    ((a < high) | (b < high)) & ((low <= a) | (low <= b))
+}

@@ -1,0 +1,17 @@
+-- `product` meets its contract.
+use mir.Syntax.{w64}
+use native.Mathlib.Nat.{mul-le-mul}
+use native.Mathlib.Omega.{arith}
+use Rattle.fraction.proofs.Bounds.{fits-nat}
+use borrow.Author.Needs.{needs}
+use Rattle.cell_walk.proofs.product.Statement.{statement}
+use Rattle.cell_walk.proofs.product.Tie as tie
+
+mul-result : tie.Need-mul-result
+mul-result c = fits-nat w64 (c .args .a) (c .args .b) 536870912 536870912 (c .pre .0) (c .pre .1) tt
+
+returns : tie.Need-returns
+returns c = (search needs, omega (arith, mul-le-mul (c .pre .0) (c .pre .1)))
+
+pub product-spec : {M : Type 1} → statement M
+product-spec = tie.close (tie.spec mul-result returns)

@@ -1,0 +1,221 @@
+// From one cell entry to the next (SHEETS 6.2 to 6.5): when a cell is entered and left, the next cell, and whether a trace has a point in one named cell.
+ghost use mathlib.Core.Path.{_≡_};
+ghost use Prim.Native.Nat.{_≤_, _<_, _*_};
+ghost use lib.IntN.{pos, natAbs};
+ghost use Rattle.fraction.specs.Time.{fraction};
+ghost use Rattle.sheet.specs.Accepted.{TrackOk};
+ghost use Rattle.cells.specs.Touched.{HasPoint};
+ghost use Rattle.cells.specs.OneCell.{border, enter, leave, entry, exit};
+ghost use Rattle.cells.specs.Walk.{step, first};
+ghost use Rattle.cell_walk.specs.Onsets.{Ready, Gives, Crosses, Headed, Near, Answers, priorOf, laterOf, soonerOf, turnOf, onsetOf, fall, crossOf};
+use cells::Cell;
+use fraction::Sign;
+use sheet::Track;
+
+// The time num / den, at which a part of time begins: with that time itself (late is 0), or just after it (late is 1). 1 / 0 is never.
+pub struct Onset {
+    pub num: u64,
+    pub den: u64,
+    pub late: u64,
+}
+
+// A speed by its direction, with its size.
+pub enum Heading {
+    Up(u64),
+    Down(u64),
+}
+
+// A cell, and from when on a tip is in it.
+pub struct Crossing {
+    pub when: Onset,
+    pub cell: Cell,
+}
+
+fn heading_of(v: i8) -> Heading
+    requires { ⌜ natAbs v ≤ 63 ⌝ }
+    ensures { λ r. ⌜ Headed v r ⌝ }
+{
+    match fraction::sign_of(v as i64) {
+        Sign::Minus(w) => Heading::Down(w),
+        Sign::Zero => Heading::Up(0),
+        Sign::Plus(w) => Heading::Up(w),
+    }
+}
+
+fn product(a: u64, b: u64) -> u64
+    requires { ⌜ (a ≤ 536870912) × (b ≤ 536870912) ⌝ }
+    ensures { λ r. ⌜ (r ≡ a * b) × (r ≤ 288230376151711744) ⌝ }
+{
+    a * b
+}
+
+// k is before l: by time, and at one time the closed before the open.
+pub fn prior(k: Onset, l: Onset) -> bool
+    requires { ⌜ Ready k × Ready l ⌝ }
+    ensures { λ r. ⌜ r ≡ priorOf k l ⌝ }
+{
+    2 * product(k.num, l.den) + k.late < 2 * product(l.num, k.den) + l.late
+}
+
+fn later(k: Onset, l: Onset) -> Onset
+    requires { ⌜ Ready k × Ready l ⌝ }
+    ensures { λ r. ⌜ Gives (laterOf k l) r ⌝ }
+{
+    if prior(k, l) { l } else { k }
+}
+
+fn sooner(k: Onset, l: Onset) -> Onset
+    requires { ⌜ Ready k × Ready l ⌝ }
+    ensures { λ r. ⌜ Gives (soonerOf k l) r ⌝ }
+{
+    if prior(l, k) { l } else { k }
+}
+
+// The border at b, by a tip that starts at x and goes up at w.
+fn rising(x: u64, w: u64, b: u64) -> Onset
+    requires { ⌜ (x ≤ 4095) × (w ≤ 63) × (b ≤ 21000000) ⌝ }
+    ensures { λ r. ⌜ Gives (onsetOf (border x (pos w) b)) r ⌝ }
+{
+    if b <= x {
+        return Onset {
+            num: 0,
+            den: 1,
+            late: 0,
+        };
+    }
+    Onset {
+        num: b - x,
+        den: w,
+        late: 0,
+    }
+}
+
+// The same of a tip that goes down at w: it is past the border only below it.
+fn falling(x: u64, w: u64, b: u64) -> Onset
+    requires { ⌜ (x ≤ 4095) × (0 < w) × (w ≤ 63) × (b ≤ 21000000) ⌝ }
+    ensures { λ r. ⌜ Gives (onsetOf (border x (fall w) b)) r ⌝ }
+{
+    if b <= x {
+        return Onset {
+            num: x - b,
+            den: w,
+            late: 1,
+        };
+    }
+    Onset {
+        num: 0,
+        den: 1,
+        late: 0,
+    }
+}
+
+// When a tip with this start and speed enters column `col` of side s, and when it leaves it.
+fn column_entry(x: u16, v: i8, s: u64, col: u64) -> Onset
+    requires { ⌜ (x ≤ 4095) × (natAbs v ≤ 63) × (s ≤ 4096) × (col ≤ 5000) ⌝ }
+    ensures { λ r. ⌜ Gives (onsetOf (enter x v s col)) r ⌝ }
+{
+    match heading_of(v) {
+        Heading::Up(w) => rising(x as u64, w, col * s),
+        Heading::Down(w) => falling(x as u64, w, (col + 1) * s),
+    }
+}
+
+fn column_exit(x: u16, v: i8, s: u64, col: u64) -> Onset
+    requires { ⌜ (x ≤ 4095) × (natAbs v ≤ 63) × (s ≤ 4096) × (col ≤ 5000) ⌝ }
+    ensures { λ r. ⌜ Gives (onsetOf (leave x v s col)) r ⌝ }
+{
+    match heading_of(v) {
+        Heading::Up(w) => rising(x as u64, w, (col + 1) * s),
+        Heading::Down(w) => falling(x as u64, w, col * s),
+    }
+}
+
+// From when on tip a has been in cell k of side s, if it ever is.
+pub fn cell_entry(a: Track, s: u64, k: Cell) -> Onset
+    requires { ⌜ TrackOk a × (s ≤ 4096) × Near k ⌝ }
+    ensures { λ r. ⌜ Gives (onsetOf (entry a s k)) r ⌝ }
+{
+    later(
+        column_entry(a.x, a.vx, s, k.column),
+        column_entry(a.y, a.vy, s, k.row),
+    )
+}
+
+// From when on it has left the cell.
+pub fn cell_exit(a: Track, s: u64, k: Cell) -> Onset
+    requires { ⌜ TrackOk a × (s ≤ 4096) × Near k ⌝ }
+    ensures { λ r. ⌜ Gives (onsetOf (exit a s k)) r ⌝ }
+{
+    sooner(
+        column_exit(a.x, a.vx, s, k.column),
+        column_exit(a.y, a.vy, s, k.row),
+    )
+}
+
+// The trace up to num / den has a point in the cell: it is entered before it is left and before the trace's end.
+pub fn has_point(a: Track, num: u64, den: u64, s: u64, k: Cell) -> bool
+    requires { ⌜ TrackOk a × (num ≤ 536870912) × (den ≤ 536870912) × (0 < den) × (s ≤ 4096) × Near k ⌝ }
+    ensures { λ r. ⌜ Answers (HasPoint a (fraction num den) s k) r ⌝ }
+{
+    let end = Onset { num, den, late: 1 };
+    prior(cell_entry(a, s, k), sooner(cell_exit(a, s, k), end))
+}
+
+fn onward(v: i8, col: u64) -> u64
+    requires { ⌜ (natAbs v ≤ 63) × (col ≤ 5000) ⌝ }
+    ensures { λ r. ⌜ r ≡ step v col ⌝ }
+{
+    match heading_of(v) {
+        Heading::Up(_) => col + 1,
+        Heading::Down(_) => if col == 0 { 0 } else { col - 1 },
+    }
+}
+
+// Over the border that is reached first, or over both.
+fn turned(lx: Onset, ly: Onset, vx: i8, vy: i8, k: Cell) -> Crossing
+    requires { ⌜ Ready lx × Ready ly × (natAbs vx ≤ 63) × (natAbs vy ≤ 63) × Near k ⌝ }
+    ensures { λ r. ⌜ Crosses (turnOf lx ly vx vy k) r ⌝ }
+{
+    let column = onward(vx, k.column);
+    let row = onward(vy, k.row);
+    if prior(lx, ly) {
+        return Crossing {
+            when: lx,
+            cell: Cell { column, row: k.row },
+        };
+    }
+    if prior(ly, lx) {
+        return Crossing {
+            when: ly,
+            cell: Cell {
+                column: k.column,
+                row,
+            },
+        };
+    }
+    Crossing {
+        when: lx,
+        cell: Cell { column, row },
+    }
+}
+
+// The next cell of tip a after cell k, and when it is entered.
+pub fn next_entry(a: Track, s: u64, k: Cell) -> Crossing
+    requires { ⌜ TrackOk a × (s ≤ 4096) × Near k ⌝ }
+    ensures { λ r. ⌜ Crosses (crossOf a s k) r ⌝ }
+{
+    let lx = column_exit(a.x, a.vx, s, k.column);
+    let ly = column_exit(a.y, a.vy, s, k.row);
+    turned(lx, ly, a.vx, a.vy, k)
+}
+
+// The cell of the start.
+pub fn first_cell(a: Track, s: u64) -> Cell
+    requires { ⌜ 0 < s ⌝ }
+    ensures { λ r. ⌜ r ≡ first a s ⌝ }
+{
+    Cell {
+        column: a.x as u64 / s,
+        row: a.y as u64 / s,
+    }
+}

@@ -1,0 +1,67 @@
+// Exact arithmetic on fractions and signed numbers: the code. The laws for contracts and proofs are in proofs/.
+ghost use mathlib.Core.Path.{_≡_};
+ghost use Prim.Native.Nat.{_*_, _<_};
+ghost use lib.Dec.{ltb};
+ghost use Rattle.fraction.specs.Lowest.{Greatest, Reduced, lowestOf};
+ghost use Rattle.fraction.specs.Narrow.{Narrow};
+ghost use Rattle.fraction.specs.Sign.{signOf};
+
+// num / den.
+pub struct Fraction {
+    pub num: u64,
+    pub den: u64,
+}
+
+// An integer by its sign, with its size.
+pub enum Sign {
+    Minus(u64),
+    Zero,
+    Plus(u64),
+}
+
+// The greatest common divisor, by Euclid's algorithm.
+fn common(a: u64, b: u64) -> u64
+    ensures { λ r. ⌜ Greatest a b r ⌝ }
+{
+    let mut x = a;
+    let mut y = b;
+    while 0 < y {
+        let t = x % y;
+        x = y;
+        y = t;
+    }
+    x
+}
+
+// n / d in lowest terms; zero becomes 0/1.
+pub fn reduce(n: u64, d: u64) -> Fraction
+    requires { ⌜ 0 < d ⌝ }
+    ensures { λ r. ⌜ (r ≡ lowestOf n d) × Reduced n d r ⌝ }
+{
+    let g = common(n, d);
+    let num = n / g;
+    let den = d / g;
+    Fraction { num, den }
+}
+
+// a is before b, as fractions.
+pub fn before(a: Fraction, b: Fraction) -> bool
+    requires { ⌜ Narrow a × Narrow b ⌝ }
+    ensures { λ r. ⌜ r ≡ ltb (a .num * b .den) (b .num * a .den) ⌝ }
+{
+    a.num * b.den < b.num * a.den
+}
+
+// The sign of z, tested once; callers match on it.
+pub fn sign_of(z: i64) -> Sign
+    ensures { λ r. ⌜ r ≡ signOf z ⌝ }
+{
+    // One off on the way, since the least i64 has no negative.
+    if z < 0 {
+        return Sign::Minus((-(z + 1)) as u64 + 1);
+    }
+    if 0 < z {
+        return Sign::Plus(z as u64);
+    }
+    Sign::Zero
+}

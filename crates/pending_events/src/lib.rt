@@ -1,0 +1,81 @@
+// The pending event of a running tip in the grid run: the sooner of its next cell entry and its best known cause.
+ghost use mathlib.Core.Path.{_≡_};
+ghost use Prim.Native.Nat.{_≤_, _<_};
+ghost use Rattle.sheet.specs.Accepted.{TrackOk};
+ghost use Rattle.cause.specs.Cause.{Fine};
+ghost use Rattle.cells.specs.Walk.{next};
+ghost use Rattle.cell_walk.specs.Onsets.{Near};
+ghost use Rattle.event_queue.specs.Key.{KeyOk};
+ghost use Rattle.pending_events.specs.Pending.{pendingKey, pendingEntry, reachedOf, eventOf};
+use cause::Cause;
+use cells::Cell;
+use event_queue::Entry;
+use event_queue::Event;
+use event_queue::Key;
+use sheet::Track;
+use cell_walk::Onset;
+
+// When the pending event of tip a leaves the queue, while a is in cell k of side s and c is the first cause known to end it.
+fn key_of(a: Track, s: u64, k: Cell, c: Cause) -> Key
+    requires { ⌜ TrackOk a × (s ≤ 4096) × Near k × Fine c ⌝ }
+    ensures { λ r. ⌜ (r ≡ pendingKey a s k c) × KeyOk r ⌝ }
+{
+    let id = a.id as u64;
+    let num = c.u;
+    let den = c.ud;
+    let entry = cell_walk::cell_exit(a, s, k);
+    let end = Onset { num, den, late: 1 };
+    if cell_walk::prior(entry, end) {
+        // Which cell it is does not matter to the order.
+        let late = event_queue::late_of(Event::Cell(0, 0), entry.late == 1);
+        return Key {
+            num: entry.num,
+            den: entry.den,
+            late,
+            id,
+        };
+    }
+    Key {
+        num,
+        den,
+        late: 1,
+        id,
+    }
+}
+
+// What a cause of this class and partner is as an event.
+fn reached(class: u64, id: u64) -> Event
+    requires { ⌜ id ≤ 65535 ⌝ }
+    ensures { λ r. ⌜ r ≡ reachedOf class id ⌝ }
+{
+    if class == 0 {
+        return Event::Track(id as u16);
+    }
+    if class == 1 {
+        return Event::Wall(id as u16);
+    }
+    Event::Edge
+}
+
+// The pending event itself; `late` is that of its key.
+fn event_of(a: Track, s: u64, k: Cell, c: Cause, late: u64) -> Event
+    requires { ⌜ TrackOk a × (s ≤ 4096) × (k .column ≤ 100) × (k .row ≤ 100) × (c .id ≤ 65535) ⌝ }
+    ensures { λ r. ⌜ r ≡ eventOf late (next a s k) c ⌝ }
+{
+    if late == 1 {
+        return reached(c.class, c.id);
+    }
+    let crossing = cell_walk::next_entry(a, s, k);
+    let cell = crossing.cell;
+    Event::Cell(cell.column as u8, cell.row as u8)
+}
+
+// The pending event of tip a, which is in cell k of side s and which c is the first cause known to end.
+pub fn entry_of(a: Track, s: u64, k: Cell, c: Cause) -> Entry
+    requires { ⌜ TrackOk a × (s ≤ 4096) × (k .column < 32) × (k .row < 32) × Fine c × (c .id ≤ 65535) ⌝ }
+    ensures { λ r. ⌜ (r ≡ pendingEntry a s k c) × KeyOk (r .key) ⌝ }
+{
+    let key = key_of(a, s, k, c);
+    let event = event_of(a, s, k, c, key.late);
+    Entry { key, event }
+}
