@@ -2,14 +2,14 @@
 // function does, and docs/CONTRACTS.md names the paragraph of docs/SHEETS.md that it serves.
 
 // The records of a sheet; reading, checking and writing them.
-pub use sheet_reader::Reading;
-pub use sheet_reader::read;
-pub use sheet_reader::scan;
 pub use sheet::Answer;
 pub use sheet::Sheet;
 pub use sheet::Track;
 pub use sheet::Verdict;
 pub use sheet::Wall;
+pub use sheet_reader::Reading;
+pub use sheet_reader::read;
+pub use sheet_reader::scan;
 pub use sheet_writer::check;
 pub use sheet_writer::write;
 

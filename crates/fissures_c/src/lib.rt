@@ -104,7 +104,10 @@ pub extern "C" fn fissure_cells(
 ) -> u64
     ensures { λ r. ⌜ CellsListed (now (s .entry)) g column row (now (out .entry)) (r, now (second .exit), now (out .exit)) ⌝ }
 {
-    tell(cell_listing::cell_tracks_bytes(s, g, column, row, out), second)
+    tell(
+        cell_listing::cell_tracks_bytes(s, g, column, row, out),
+        second,
+    )
 }
 
 // The numbers of a session: one, the rows shown.

@@ -8,12 +8,12 @@ ghost use Rattle.cell_walk.specs.Onsets.{Near};
 ghost use Rattle.event_queue.specs.Key.{KeyOk};
 ghost use Rattle.pending_events.specs.Pending.{pendingKey, pendingEntry, reachedOf, eventOf};
 use cause::Cause;
+use cell_walk::Onset;
 use cells::Cell;
 use event_queue::Entry;
 use event_queue::Event;
 use event_queue::Key;
 use sheet::Track;
-use cell_walk::Onset;
 
 // When the pending event of tip a leaves the queue, while a is in cell k of side s and c is the first cause known to end it.
 fn key_of(a: Track, s: u64, k: Cell, c: Cause) -> Key

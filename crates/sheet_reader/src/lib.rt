@@ -16,13 +16,13 @@ ghost use Rattle.sheet.specs.HandedIn.{sheetOf};
 ghost use Rattle.sheet_rules.specs.Judged.{worstOf};
 ghost use Rattle.sheet_reader.specs.Walk.{WholeAt, Walk, SoFar, ofKind};
 ghost use Rattle.sheet_reader.specs.Reading.{ReadFrom};
-use sheet_rules::NO_LINE;
 use sheet::Command;
 use sheet::Item;
 use sheet::Sheet;
 use sheet::Track;
 use sheet::Verdict;
 use sheet::Wall;
+use sheet_rules::NO_LINE;
 
 // The operands of the track command at a place.
 fn track_at(s: &[u8], at: usize) -> Track
