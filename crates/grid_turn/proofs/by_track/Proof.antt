@@ -11,7 +11,7 @@ by-track-requires : tie.Need-by-track-requires
 by-track-requires c κs = track-asked (c .before .before .pre .1) (c .best-of .result) (c .best-of .ensures)
 
 returns : tie.Need-returns
-returns c = track-ends (c .before .before .before .before .pre .1) (c .before .before .best-of .result) (c .before .before .best-of .ensures) (c .by-track .ensures)
+returns c = track-ends (c .before .before .before .pre .1) (c .before .best-of .result) (c .before .best-of .ensures) (c .by-track .ensures)
 
 pub by-track-spec : {M : Type 1} → statement M
 by-track-spec = tie.close (tie.spec best-of-requires by-track-requires returns)
