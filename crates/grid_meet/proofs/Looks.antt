@@ -1,11 +1,19 @@
 -- The tip at i, on its way, and the tip at j look at each other: what the steps ask, and what they give. Main theorems: `is-noticed`, `is-paired`.
 use mathlib.Core.Logic.{_≢_, inl, inr}
 use mathlib.Core.List.{List, [], _∷_, List·Memᴰ·head}
-use mathlib.Core.Option.{some}
-use mathlib.Core.Path.{_≡_, refl, _∙_}
-use Prim.Native.Nat.{ℕ, _<_}
-use lib.ListN.{set}
+use mathlib.Core.Option.{none, some}
+use mathlib.Core.Path.{_≡_, refl, sym, ap, subst, _∙_}
+use Prim.Native.Nat.{ℕ, zero, suc, _<_}
+use native.Mathlib.Omega.{arith}
+use lib.ListN.{length, getD, set}
+use Rattle.sheet.specs.declared.Track.{Track}
 use Rattle.sheet.specs.Listing.{Listing}
+use Rattle.contact.specs.declared.Touch.{Touch}
+use Rattle.contact.specs.declared.Touch.the-variants.{Nowhere, Hit}
+use Rattle.cause.specs.declared.Cause.{Cause}
+use Rattle.cause.specs.Cause.{tipAt}
+use Rattle.cause.specs.Offer.{TipOffered, Taken}
+use Rattle.pending_events.specs.Pending.{pendingEntry}
 use Rattle.event_queue.specs.Queue.{Slots, Queue, slots, Held, Holds}
 use Rattle.tips.specs.Tips as tips
 use Rattle.tips.specs.Tips.{Tip, tipIn, tipsIn}
@@ -15,6 +23,7 @@ use Rattle.grid_steps.specs.Steps.{MayLook, MayEnter, Offered, entryIn}
 use Rattle.grid_state.specs.Sweep.{Crowd, crowdIn, Crowded}
 use Rattle.grid_state.specs.State.{Runs}
 use Rattle.grid_state.specs.Meeting.{Noticed, looks, Paired, known, looked, Frame, Busy, MayMeet}
+use Rattle.grid_state.proofs.Queue.{slot-in, tip-same}
 use Rattle.grid_state.proofs.Meeting.{begun-place, look-own, look-other}
 use Rattle.grid_meet.specs.Meeting.{MayNotice}
 
@@ -55,6 +64,35 @@ module _ {S : Listing} {side i j : ℕ} {ts : List Tip} {s : Slots} (m : MayNoti
 pub is-noticed : {S : Listing} {side i j : ℕ} {ts ts′ : List Tip} {s : Slots} {q : List ℕ} → tipIn ts j .ended ≡ 0 → Offered S j i ts ts′ → Holds q (set s j (some (entryIn S side ts′ j)))
     → Queue q × Noticed S side i j ts s ts′ (slots q)
 is-noticed r o h = (h .queue, looks r o (h .holds))
+
+-- where the cause is not the tip at i it is what it was, and so is the event
+same-cause : {a b : Track} {k n u ud : ℕ} {c r : Cause} → TipOffered a b k n u ud c r → (r .class ≡ 0 → r .who ≡ k → ⊥) → r ≡ c
+same-cause {b = b} {k} {c = c} {r} o n = go (o .touch) (o .taken)
+  where
+    go : (t : Touch) → Taken b k t c r → r ≡ c
+    go Nowhere e = e
+    go (Hit u ud s sd) (inl (e, _)) = e
+    go (Hit u ud s sd) (inr (e, _)) = absurd (n (ap (λ (d : Cause). d .class) e) (ap (λ (d : Cause). d .who) e))
+
+set-same : {A : Type 0} (l : List A) (i : ℕ) (d x : A) → getD l i d ≡ x → i < length l → set l i x ≡ l
+set-same [] i d x e h = absurd (omega arith)
+set-same (y ∷ l) zero d x e h = ap (λ (z : _). z ∷ l) (sym e)
+set-same (y ∷ l) (suc i) d x e h = ap (λ (z : List _). y ∷ z) (set-same l i d x e (omega arith))
+
+module _ {S : Listing} {side i j : ℕ} {ts ts′ : List Tip} {s : Slots} (m : MayNotice S side i j ts s) (r : tipIn ts j .ended ≡ 0) (o : Offered S j i ts ts′) where
+  new-tip : tipIn ts′ j ≡ record { best = o .cause; base = tipIn ts j .base; ended = tipIn ts j .ended; cell = tipIn ts j .cell }
+  new-tip = ap (λ (z : List Tip). tipIn z j) (o .stored) ∙ tip-same ts j _ (omega (arith, notice-in m, m .busy .looked .long))
+
+  pub now-cause : tipIn ts′ j .best ≡ o .cause
+  now-cause = ap (λ (t : Tip). t .best) new-tip
+
+  pub kept-noticed : (c : Cause) → c ≡ tipIn ts′ j .best → (c .class ≡ 0 → c .who ≡ i → ⊥) → Noticed S side i j ts s ts′ s
+  kept-noticed c e n =
+      let f = e ∙ now-cause in
+      let k = same-cause (o .offered) (subst (λ (d : Cause). d .class ≡ 0 → d .who ≡ i → ⊥) f n) in
+      let q : entryIn S side ts′ j ≡ entryIn S side ts j = ap (λ (t : Tip). pendingEntry (tipAt S j) side (t .cell) (t .best)) new-tip ∙ ap (λ (d : Cause). pendingEntry (tipAt S j) side (tipIn ts j .cell) d) k in
+      let h = m .busy .queued .due j (m .begun, r) (m .apart) in
+      looks r o (sym (set-same s j none (some (entryIn S side ts′ j)) (h ∙ ap some (sym q)) (slot-in s j h)))
 
 -- ---- both, once
 

@@ -10,14 +10,20 @@ ghost use Rattle.grid_state.specs.Sweep.{crowdIn, Crowded};
 ghost use Rattle.grid_state.specs.Meeting.{Noticed, Paired, MayMeet};
 ghost use Rattle.grid_meet.specs.Meeting.{MayNotice, MeetsIn};
 
-// The tip at j, if it runs, looks at the tip at i, and its event comes anew.
+// The tip at j, if it runs, looks at the tip at i; where that ends it, its event comes anew.
 fn notice(records: &[u16], side: u64, i: usize, j: usize, tips: &mut [u64], queue: &mut [u64])
     requires { ⌜ Recorded (now records) × Room (now tips) × Queue (now queue) × MayNotice (sheetIn (now records)) side i j (tipsIn (now tips)) (slots (now queue)) ⌝ }
     ensures { λ r. ⌜ Queue (now (queue .exit)) × Noticed (sheetIn (now (records .entry))) side i j (tipsIn (now (tips .entry))) (slots (now (queue .entry))) (tipsIn (now (tips .exit))) (slots (now (queue .exit))) ⌝ }
 {
     if tips::ended(tips, j) == 0 {
         grid_steps::offer(records, j, i, tips);
-        grid_steps::retime(records, side, j, tips, queue);
+        let c = tips::best_of(tips, j);
+        // Most tips never meet: only a cause that is the tip at i makes the event another.
+        if c.class == 0 {
+            if c.who == i as u64 {
+                grid_steps::retime(records, side, j, tips, queue);
+            }
+        }
     }
 }
 

@@ -101,7 +101,7 @@ chosen Z false f = refl
 
 -- a command that breaks no rule is counted with those before it
 next : {before : List Command} {at : ℕ} → Counted before at → (c : Command) → eqb (firstBroken table before c) no-line ≡ true → Counted (before ++ (c ∷ [])) (at + width c)
-next {before} k c e = one-more k c (clear before c (eqb-true (firstBroken table before c) 0 e) .room)
+next {before} k c e = one-more k c (clear before c (eqb-true (firstBroken table before c) no-line e) .room)
 
 module _ (s : List ℕ) (n : ℕ) (h : deciding ≤ n) (k : n ≤ length s) where
   at-item : (at : ℕ) (N M : Command → Returned) → at ≤ 5120 → ((c : Command) → N c ≡ M c) → (i : Item) → atItem (take n s) at N i ≡ atItem s at M i
