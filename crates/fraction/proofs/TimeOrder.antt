@@ -1,13 +1,14 @@
 -- The order of times. Main theorems: `≤ᵗ-trans` with its mixed forms, and the decision `≤ᵗ-or-<ᵗ`.
 use mathlib.Core.Path.{_≡_}
 use mathlib.Core.Logic.{_⊎_, inl, inr}
-use mathlib.Core.Bool.{Bool, true, false}
+use mathlib.Core.Bool.{true, false}
 use Prim.Native.Nat.{ℕ, suc, pred, _*_, _≤_, _<_}
 use native.Mathlib.Omega.{arith}
 use native.Mathlib.Nat.{mul-le-mul-right, le-of-mul-le-mul-left, mul-lt-mul-of-pos-right, lt-of-mul-lt-mul-left}
-use lib.Dec.{ltb}
-use borrow.Author.Tests.{ltb-true, ltb-false}
-use Rattle.fraction.specs.Time.{Time, _≤ᵗ_, _<ᵗ_, _≈ᵗ_, fraction, zeroᵗ}
+use lib.Dec.{leb}
+use borrow.Author.Tests.{leb-true, leb-false}
+use Rattle.fraction.specs.declared.Fraction.{Fraction}
+use Rattle.fraction.specs.Time.{Time, _≤ᵗ_, _<ᵗ_, _≈ᵗ_, fraction, asTime, zeroᵗ}
 use Rattle.fraction.specs.Order.{≤ᵗ-or-<ᵗ, ≈ᵗ-of}
 
 pub ≤ᵗ-refl : (a : Time) → a ≤ᵗ a
@@ -71,25 +72,25 @@ pub ≈ᵗ-of-not : {a b : Time} → ¬ (a <ᵗ b) → ¬ (b <ᵗ a) → a ≈�
 pub ≈ᵗ-trans : {a b c : Time} → a ≈ᵗ b → b ≈ᵗ c → a ≈ᵗ c
 ≈ᵗ-trans h k = ≈ᵗ-of (≤ᵗ-trans (≈ᵗ→≤ᵗ h) (≈ᵗ→≤ᵗ k)) (≤ᵗ-trans (≈ᵗ→≤ᵗ (≈ᵗ-sym k)) (≈ᵗ→≤ᵗ (≈ᵗ-sym h)))
 
--- ---- what the code's test of two fractions says
+-- ---- times by the products of their parts
 
-module _ (a b : Time) where
-  pub before-true : ltb (a .num * b .den) (b .num * a .den) ≡ true → a <ᵗ b
-  before-true e = record { lt = omega (arith, ltb-true) }
-
-  pub before-false : ltb (a .num * b .den) (b .num * a .den) ≡ false → b ≤ᵗ a
-  before-false e = record { le = omega (arith, ltb-false) }
-
--- the same of n / d and m / e as the code holds them
 module _ (n d m e : ℕ) (p : 0 < d) (q : 0 < e) where
-  shown : (r : Bool) → ltb (n * e) (m * d) ≡ r → ltb (n * suc (pred e)) (m * suc (pred d)) ≡ r
-  shown r h = let x : suc (pred d) ≡ d = omega arith in let y : suc (pred e) ≡ e = omega arith in rw (x, y) h
+  pub fraction-lt : n * e < m * d → fraction n d <ᵗ fraction m e
+  fraction-lt h = let x : suc (pred d) ≡ d = omega arith in let y : suc (pred e) ≡ e = omega arith in record { lt = rw (x, y) h }
 
-  pub fraction-before : ltb (n * e) (m * d) ≡ true → fraction n d <ᵗ fraction m e
-  fraction-before h = before-true (fraction n d) (fraction m e) (shown true h)
+  pub fraction-le : n * e ≤ m * d → fraction n d ≤ᵗ fraction m e
+  fraction-le h = let x : suc (pred d) ≡ d = omega arith in let y : suc (pred e) ≡ e = omega arith in record { le = rw (x, y) h }
 
-  pub fraction-not-before : ltb (n * e) (m * d) ≡ false → fraction m e ≤ᵗ fraction n d
-  fraction-not-before h = before-false (fraction n d) (fraction m e) (shown false h)
+  pub fraction-eq : n * e ≡ m * d → fraction n d ≈ᵗ fraction m e
+  fraction-eq h = let x : suc (pred d) ≡ d = omega arith in let y : suc (pred e) ≡ e = omega arith in record { eq = rw (x, y) h }
+
+-- what the code's comparison says
+module _ (a b : Fraction) (p : 0 < a .den) (q : 0 < b .den) where
+  pub told-not-later : leb (a .num * b .den) (b .num * a .den) ≡ true → asTime a ≤ᵗ asTime b
+  told-not-later h = fraction-le (a .num) (a .den) (b .num) (b .den) p q (leb-true (a .num * b .den) (b .num * a .den) h)
+
+  pub told-later : leb (a .num * b .den) (b .num * a .den) ≡ false → asTime b <ᵗ asTime a
+  told-later h = fraction-lt (b .num) (b .den) (a .num) (a .den) q p (leb-false (a .num * b .den) (b .num * a .den) h)
 
 pub at-most : {a b : Time} → ¬ (b <ᵗ a) → a ≤ᵗ b
 at-most {a} {b} f = go (≤ᵗ-or-<ᵗ a b)

@@ -1,12 +1,12 @@
 // Exact arithmetic on fractions and signed numbers: the code. The laws for contracts and proofs are in proofs/.
 ghost use mathlib.Core.Path.{_≡_};
 ghost use Prim.Native.Nat.{_*_, _<_};
-ghost use lib.Dec.{ltb};
+ghost use lib.Dec.{leb};
 ghost use Rattle.fraction.specs.Lowest.{Greatest, Reduced, lowestOf};
-ghost use Rattle.fraction.specs.Narrow.{Narrow};
+ghost use Rattle.fraction.specs.Sizes.{Timely};
 ghost use Rattle.fraction.specs.Sign.{signOf};
 
-// num / den.
+// The time num / den.
 pub struct Fraction {
     pub num: u64,
     pub den: u64,
@@ -33,23 +33,25 @@ fn common(a: u64, b: u64) -> u64
     x
 }
 
-// n / d in lowest terms; zero becomes 0/1.
-pub fn reduce(n: u64, d: u64) -> Fraction
-    requires { ⌜ 0 < d ⌝ }
-    ensures { λ r. ⌜ (r ≡ lowestOf n d) × Reduced n d r ⌝ }
+// In lowest terms; zero becomes 0/1.
+pub fn reduce(t: Fraction) -> Fraction
+    requires { ⌜ 0 < t .den ⌝ }
+    ensures { λ r. ⌜ (r ≡ lowestOf (t .num) (t .den)) × Reduced (t .num) (t .den) r ⌝ }
 {
+    let n = t.num;
+    let d = t.den;
     let g = common(n, d);
     let num = n / g;
     let den = d / g;
     Fraction { num, den }
 }
 
-// a is before b, as fractions.
-pub fn before(a: Fraction, b: Fraction) -> bool
-    requires { ⌜ Narrow a × Narrow b ⌝ }
-    ensures { λ r. ⌜ r ≡ ltb (a .num * b .den) (b .num * a .den) ⌝ }
+// a is no later than b.
+pub fn not_later(a: Fraction, b: Fraction) -> bool
+    requires { ⌜ Timely a × Timely b ⌝ }
+    ensures { λ r. ⌜ r ≡ leb (a .num * b .den) (b .num * a .den) ⌝ }
 {
-    a.num * b.den < b.num * a.den
+    a.num * b.den <= b.num * a.den
 }
 
 // The sign of z, tested once; callers match on it.

@@ -1,8 +1,8 @@
--- `before` meets its contract.
+-- `not_later` meets its contract.
 use borrow.Author.Needs.{needs}
 use Rattle.fraction.proofs.Bounds.{fits-nat}
-use Rattle.fraction.proofs.before.Statement.{statement}
-use Rattle.fraction.proofs.before.Tie as tie
+use Rattle.fraction.proofs.not_later.Statement.{statement}
+use Rattle.fraction.proofs.not_later.Tie as tie
 
 mul-result : tie.Need-mul-result
 mul-result c = search (fits-nat, needs)
@@ -13,5 +13,5 @@ mul-result-2 c = search (fits-nat, needs)
 returns : tie.Need-returns
 returns c = search needs
 
-pub before-spec : {M : Type 1} → statement M
-before-spec = tie.close (tie.spec mul-result mul-result-2 returns)
+pub not-later-spec : {M : Type 1} → statement M
+not-later-spec = tie.close (tie.spec mul-result mul-result-2 returns)
