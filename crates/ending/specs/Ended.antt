@@ -30,4 +30,4 @@ pub record Endable (a : Track) (c : Cause) : Type 0 where
 
 -- the row at place k of the roll
 abbrev pub nextRow : Listing → ℕ → Row
-nextRow S k = getD (rollOf S) k (record { id = 0; num = 0; den = 0; x = 0; y = 0; ending = Edge })
+nextRow S k = getD (rollOf S) k (record { id = 0; at = record { num = 0; den = 0 }; x = 0; y = 0; ending = Edge })

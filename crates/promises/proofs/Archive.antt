@@ -119,18 +119,18 @@ module _ (s : List ℕ) (b : AllBytes s) (e : verdictOf s ≡ accepted) where
 
 -- ---- the times
 
-in-lowest : (l : List Command) → Accepted (listing l) → (r : Row) → InRoll l r → (0 < r .den) × Lowest (r .num) (r .den)
+in-lowest : (l : List Command) → Accepted (listing l) → (r : Row) → InRoll l r → (0 < r .at .den) × Lowest (r .at .num) (r .at .den)
 in-lowest l acc r h =
     let m = in-roll l acc r h in
     let R = roll-of (listing l) acc .meets in
     let (a, i, o) = R .is-set .no-other r m in
     (R .is-set .den-pos r m, R .by-rule r a m i o .lowest)
 
-one-fraction : (r q : Row) → (0 < r .den) × Lowest (r .num) (r .den) → (0 < q .den) × Lowest (q .num) (q .den) → time r ≈ᵗ time q → (r .num ≡ q .num) × (r .den ≡ q .den)
+one-fraction : (r q : Row) → (0 < r .at .den) × Lowest (r .at .num) (r .at .den) → (0 < q .at .den) × Lowest (q .at .num) (q .at .den) → time r ≈ᵗ time q → (r .at .num ≡ q .at .num) × (r .at .den ≡ q .at .den)
 one-fraction r q (d, l) (d′, l′) h =
-    let x : suc (pred (r .den)) ≡ r .den = omega arith in
-    let y : suc (pred (q .den)) ≡ q .den = omega arith in
-    lowest-unique (r .num) (r .den) (q .num) (q .den) l l′ d d′ (rw (x, y) at (h .eq))
+    let x : suc (pred (r .at .den)) ≡ r .at .den = omega arith in
+    let y : suc (pred (q .at .den)) ≡ q .at .den = omega arith in
+    lowest-unique (r .at .num) (r .at .den) (q .at .num) (q .at .den) l l′ d d′ (rw (x, y) at (h .eq))
 
 pub archive : (s : List ℕ) → AllBytes s → verdictOf s ≡ accepted → Archive s
 archive s b e =

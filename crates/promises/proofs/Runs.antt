@@ -36,7 +36,7 @@ use Rattle.promises.specs.Runs.{Run, plain, grid, rowCount, Room, Reads,
 use Rattle.promises.proofs.Sheets.{commands-fit, scanned}
 
 blank : Row
-blank = record { id = 0; num = 0; den = 1; x = 0; y = 0; ending = Edge }
+blank = record { id = 0; at = record { num = 0; den = 1 }; x = 0; y = 0; ending = Edge }
 
 module _ (l : List Command) (acc : Accepted (listing l)) where
   abbrev S : Listing

@@ -53,8 +53,8 @@ pub record Archive (s : List ℕ) : Type 0 where
       (r : Reading) {before exit : List ℕ} {w : Answer} → ReadFrom s r → Writes (r .sheet) before exit w → length s ≤ length before
       → Again (r .sheet) (take (length s) exit)
   -- the time in each row of the sheet is a fraction in lowest terms
-  pub lowest : (r : Row) → InRoll (commandsOf s) r → (0 < r .den) × Lowest (r .num) (r .den)
+  pub lowest : (r : Row) → InRoll (commandsOf s) r → (0 < r .at .den) × Lowest (r .at .num) (r .at .den)
   -- and the same time in a row of any other sheet is the same fraction
   pub one-fraction :
       (l : List Command) → Accepted (listing l) → (r q : Row) → InRoll (commandsOf s) r → InRoll l q → time r ≈ᵗ time q
-      → (r .num ≡ q .num) × (r .den ≡ q .den)
+      → (r .at .num ≡ q .at .num) × (r .at .den ≡ q .at .den)

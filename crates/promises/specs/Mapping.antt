@@ -40,8 +40,8 @@ pub record EndPoint (l : List Command) (r : Row) : Type 0 where
   pub on-sheet : tip ∈ tracksOf l
   pub own : r .id ≡ tip .id
   pub lands : Lands l tip (time r) (r .ending)
-  pub x-rounded : Rounded (X tip (time r)) (r .den) (r .x)
-  pub y-rounded : Rounded (Y tip (time r)) (r .den) (r .y)
+  pub x-rounded : Rounded (X tip (time r)) (r .at .den) (r .x)
+  pub y-rounded : Rounded (Y tip (time r)) (r .at .den) (r .y)
 
 pub record Mapping (l : List Command) : Type 0 where
   -- with room for them a run writes as many rows as there are tracks

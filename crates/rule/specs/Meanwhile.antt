@@ -47,7 +47,7 @@ pub record Floor (S : Listing) (done : List Row) (v : Time) (i : ℕ) : Type 0 w
 
 -- tip a is the next to end, and r is its row
 pub record Pick (S : Listing) (done : List Row) (a : Track) (r : Row) : Type 0 where
-  pub den-pos : 0 < r .den
+  pub den-pos : 0 < r .at .den
   pub row : RuleRow S (upTo done (time r)) a r
   pub next : Floor S done (time r) (a .id)
 

@@ -18,8 +18,8 @@ line-short r f =
     let i = field-short (r .id) 32 (omega (arith, f .id)) in
     let k = field-short (kindOf (r .ending)) 32 (omega (arith, kind-in (r .ending))) in
     let q = field-short (partnerOf (r .ending)) 32 (omega (arith, f .partner)) in
-    let n = field-short (r .num) 47 (omega (arith, f .num)) in
-    let d = field-short (r .den) 32 (omega (arith, f .den)) in
+    let n = field-short (r .at .num) 47 (omega (arith, f .num)) in
+    let d = field-short (r .at .den) 32 (omega (arith, f .den)) in
     let x = field-short (r .x) 32 (omega (arith, f .x)) in
     let y = field-short (r .y) 10 (omega (arith, f .y)) in
     simp length-append (omega arith)

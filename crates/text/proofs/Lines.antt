@@ -111,7 +111,7 @@ pub seven :
     (r : Row) {k q : ℕ} {l0 l1 l2 l3 l4 l5 l6 l7 : Draft}
     → k ≡ kindOf (r .ending) → q ≡ partnerOf (r .ending) → Holds [] l0
     → Holds (textIn l0 ++ field (r .id) 32) l1 → Holds (textIn l1 ++ field k 32) l2 → Holds (textIn l2 ++ field q 32) l3
-    → Holds (textIn l3 ++ field (r .num) 47) l4 → Holds (textIn l4 ++ field (r .den) 32) l5
+    → Holds (textIn l3 ++ field (r .at .num) 47) l4 → Holds (textIn l4 ++ field (r .at .den) 32) l5
     → Holds (textIn l5 ++ field (r .x) 32) l6 → Holds (textIn l6 ++ field (r .y) 10) l7
     → Holds (lineOf r) l7
 unfolding lineOf
@@ -119,8 +119,8 @@ seven r hk hq h0 h1 h2 h3 h4 h5 h6 h7 =
     let g1 = behind h0 (field (r .id) 32) h1 in
     let g2 = behind g1 (field (kindOf (r .ending)) 32) (rw hk at h2) in
     let g3 = behind g2 (field (partnerOf (r .ending)) 32) (rw hq at h3) in
-    let g4 = behind g3 (field (r .num) 47) h4 in
-    let g5 = behind g4 (field (r .den) 32) h5 in
+    let g4 = behind g3 (field (r .at .num) 47) h4 in
+    let g5 = behind g4 (field (r .at .den) 32) h5 in
     let g6 = behind g5 (field (r .x) 32) h6 in
     let g7 = behind g6 (field (r .y) 10) h7 in
     g7

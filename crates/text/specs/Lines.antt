@@ -25,8 +25,8 @@ lineOf r =
     field (r .id) 32 ++
     field (kindOf (r .ending)) 32 ++
     field (partnerOf (r .ending)) 32 ++
-    field (r .num) 47 ++
-    field (r .den) 32 ++
+    field (r .at .num) 47 ++
+    field (r .at .den) 32 ++
     field (r .x) 32 ++
     field (r .y) 10
 
