@@ -1,6 +1,4 @@
 -- Each field by its bytes.
-use mathlib.Core.Path.{ap}
-use Rattle.fraction.specs.declared.Fraction.{Fraction}
 use Rattle.row.specs.Stored.{rowFrom}
 use borrow.Author.Needs.{needs}
 use Rattle.row.proofs.row_from.Statement.{statement}
@@ -54,9 +52,7 @@ returns c =
     let c4 = c .before .before .before in
     let c5 = c .before .before in
     let c6 = c .before in
-    let n = ap (λ (f : Fraction). f .num) (c4 .time-from .ensures) in
-    let d = ap (λ (f : Fraction). f .den) (c4 .time-from .ensures) in
-    rw (c .ending-from .ensures, c1 .id-from .ensures, c2 .get .ensures .0, c3 .get16 .ensures, n, d, c5 .get2 .ensures .0, c6 .get3 .ensures .0)
+    rw (c .ending-from .ensures, c1 .id-from .ensures, c2 .get .ensures .0, c3 .get16 .ensures, c4 .time-from .ensures, c5 .get2 .ensures .0, c6 .get3 .ensures .0)
 
 pub row-from-spec : {M : Type 1} → statement M
 row-from-spec =
