@@ -3,11 +3,12 @@ use mathlib.Core.Logic.{_⊎_}
 use mathlib.Core.Path.{_≡_, refl, sym, ap, _∙_, subst}
 use Prim.Native.Nat.{ℕ}
 use native.Mathlib.Omega.{arith}
-use Rattle.fraction.specs.Time.{Time, _≤ᵗ_, _<ᵗ_, fraction}
+use Rattle.fraction.specs.declared.Fraction.{Fraction}
+use Rattle.fraction.specs.Time.{Time, _≤ᵗ_, _<ᵗ_, asTime}
 use Rattle.sheet.specs.declared.Track.{Track}
 use Rattle.sheet.specs.declared.Wall.{Wall}
-use Rattle.fraction.specs.Small.{Small}
-use Rattle.contact.specs.Answers.{quotOf, touchOf, MomentSmall, TouchSmall}
+use Rattle.fraction.specs.Sizes.{Timely}
+use Rattle.contact.specs.Answers.{quotOf, touchOf, MomentTimely, TouchTimely}
 use Rattle.contact.specs.declared.Moment.{Moment}
 use Rattle.contact.specs.declared.Moment.the-variants.{Never, At}
 use Rattle.contact.specs.declared.Touch.{Touch}
@@ -17,27 +18,27 @@ use Rattle.rule.specs.EdgeTime.{rim}
 use Rattle.rule.specs.WallTime.{wallTime}
 use Rattle.cause.specs.declared.Cause.{Cause}
 use Rattle.cause.specs.Cause.{Least}
-use Rattle.cause.specs.Offer.{AtEdge, wallCause, WallOffered, struck, Reached, itself, missed, void, met}
+use Rattle.cause.specs.Offer.{unused, edgeCause, AtEdge, wallCause, WallOffered, struck, Reached, itself, missed, void, met}
 
-pub small-zero : Small 0 1
-small-zero = record { num-in = omega arith; den-in = omega arith; den-pos = omega arith }
+pub unused-timely : Timely unused
+unused-timely = record { num-in = omega arith; den-in = omega arith; den-pos = omega arith }
 
-module _ {m : Moment} {n d : ℕ} (e : m ≡ At n d) where
-  pub at-quot : {q : Quot} → quotOf m ≡ q → q ≡ when (fraction n d)
+module _ {m : Moment} {t : Fraction} (e : m ≡ At t) where
+  pub at-quot : {q : Quot} → quotOf m ≡ q → q ≡ when (asTime t)
   at-quot h = sym h ∙ ap quotOf e
 
-  pub at-small : MomentSmall m → Small n d
-  at-small h = subst MomentSmall e h
+  pub at-timely : MomentTimely m → Timely t
+  at-timely h = subst MomentTimely e h
 
 pub never-quot : {m : Moment} {q : Quot} → m ≡ Never → quotOf m ≡ q → q ≡ never
 never-quot e h = sym h ∙ ap quotOf e
 
-module _ {t : Touch} {u ud s sd : ℕ} (e : t ≡ Hit u ud s sd) where
-  pub hit-contact : {q : Contact} → touchOf t ≡ q → q ≡ hit (fraction u ud) (fraction s sd)
+module _ {t : Touch} {u s : Fraction} (e : t ≡ Hit u s) where
+  pub hit-contact : {q : Contact} → touchOf t ≡ q → q ≡ hit (asTime u) (asTime s)
   hit-contact h = sym h ∙ ap touchOf e
 
-  pub hit-small : TouchSmall t → Small u ud × Small s sd
-  hit-small h = subst TouchSmall e h
+  pub hit-timely : TouchTimely t → Timely u × Timely s
+  hit-timely h = subst TouchTimely e h
 
 pub nowhere-contact : {t : Touch} {q : Contact} → t ≡ Nowhere → touchOf t ≡ q → q ≡ nowhere
 nowhere-contact e h = sym h ∙ ap touchOf e
@@ -46,23 +47,23 @@ nowhere-contact e h = sym h ∙ ap touchOf e
 pub edge-never : {m : Moment} {t : Time} {A : Type 0} → m ≡ Never → quotOf m ≡ when t → A
 edge-never {m} {t} e h = let f : when t ≡ never = never-quot e h in let z : _≡_ {A = ℕ} 0 1 = cc in absurd (omega arith)
 
-pub edge-at : (a : Track) {m : Moment} {u ud : ℕ} → m ≡ At u ud → MomentSmall m → quotOf m ≡ when (rim a) → AtEdge a (record { u = u; ud = ud; class = 2; id = 0; who = 0; s = 0; sd = 1 })
-edge-at a {m} {u} {ud} e s h =
-    let f : when (rim a) ≡ when (fraction u ud) = at-quot e h in
-    record { u = u; ud = ud; small = at-small e s; is = refl; last = cc }
+pub edge-at : (a : Track) {m : Moment} {u : Fraction} → m ≡ At u → MomentTimely m → quotOf m ≡ when (rim a) → AtEdge a (edgeCause u)
+edge-at a {m} {u} e s h =
+    let f : when (rim a) ≡ when (asTime u) = at-quot e h in
+    record { u = u; timely = at-timely e s; is = refl; last = cc }
 
-pub wall-at : {a : Track} {w : Wall} {k : ℕ} {c r : Cause} {m : Moment} {u ud : ℕ} → m ≡ At u ud → (quotOf m ≡ wallTime a w) × MomentSmall m → Least c (wallCause w k u ud) r → WallOffered a w k c r
-wall-at {u = u} {ud = ud} e h l = struck u ud (at-quot e (h .0)) (at-small e (h .1)) l
+pub wall-at : {a : Track} {w : Wall} {k : ℕ} {c r : Cause} {m : Moment} {u : Fraction} → m ≡ At u → (quotOf m ≡ wallTime a w) × MomentTimely m → Least c (wallCause w k u) r → WallOffered a w k c r
+wall-at {u = u} e h l = struck u (at-quot e (h .0)) (at-timely e (h .1)) l
 
-pub reached-hit : {a b : Track} {ended n d : ℕ} {t : Touch} {u ud s sd : ℕ} → t ≡ Hit u ud s sd → (touchOf t ≡ contact a b) × TouchSmall t → (b .id ≡ a .id → ⊥) →
-    (ended ≡ 0) ⊎ ((ended ≡ 0 → ⊥) × (fraction s sd ≤ᵗ fraction n d)) → Reached a b ended n d (Hit u ud s sd)
-reached-hit {u = u} {ud = ud} {s = s} {sd = sd} e h n q = let (p, g) = hit-small e (h .1) in met u ud s sd n (hit-contact e (h .0)) q p g refl
+module _ {a b : Track} {ended : ℕ} {end : Fraction} {t : Touch} where
+  pub reached-hit : {u s : Fraction} → t ≡ Hit u s → (touchOf t ≡ contact a b) × TouchTimely t → (b .id ≡ a .id → ⊥) → (ended ≡ 0) ⊎ ((ended ≡ 0 → ⊥) × (asTime s ≤ᵗ asTime end)) → Reached a b ended end (Hit u s)
+  reached-hit {u} {s} e h n q = let (p, g) = hit-timely e (h .1) in met u s n (hit-contact e (h .0)) q p g refl
 
-pub reached-void : {a b : Track} {ended n d : ℕ} {t : Touch} {u ud s sd : ℕ} → t ≡ Hit u ud s sd → touchOf t ≡ contact a b → (ended ≡ 0 → ⊥) → fraction n d <ᵗ fraction s sd → Reached a b ended n d Nowhere
-reached-void {u = u} {ud = ud} {s = s} {sd = sd} e h n l = void (fraction u ud) (fraction s sd) (hit-contact e h) n l refl
+  pub reached-void : {u s : Fraction} → t ≡ Hit u s → touchOf t ≡ contact a b → (ended ≡ 0 → ⊥) → asTime end <ᵗ asTime s → Reached a b ended end Nowhere
+  reached-void {u} {s} e h n l = void (asTime u) (asTime s) (hit-contact e h) n l refl
 
-pub reached-small : {a b : Track} {ended n d : ℕ} {t : Touch} → Reached a b ended n d t → TouchSmall t
-reached-small (itself e x) = subst TouchSmall (sym x) tt
-reached-small (missed e x) = subst TouchSmall (sym x) tt
-reached-small (void u s e n l x) = subst TouchSmall (sym x) tt
-reached-small (met u ud s sd n e q p g x) = subst TouchSmall (sym x) (p, g)
+  pub reached-timely : Reached a b ended end t → TouchTimely t
+  reached-timely (itself e x) = subst TouchTimely (sym x) tt
+  reached-timely (missed e x) = subst TouchTimely (sym x) tt
+  reached-timely (void u s e n l x) = subst TouchTimely (sym x) tt
+  reached-timely (met u s n e q p g x) = subst TouchTimely (sym x) (p, g)

@@ -2,15 +2,15 @@
 use mathlib.Core.Bool.{Bool, true, false, true≢false}
 use mathlib.Core.Logic.{inl, inr}
 use mathlib.Core.Path.{_≡_, refl, sym, subst}
-use Prim.Native.Nat.{ℕ, suc, pred, _*_}
+use Prim.Native.Nat.{ℕ, _*_}
 use native.Mathlib.Omega.{arith}
 use lib.Dec.{leb}
-use borrow.Author.Tests.{leb-true, leb-false}
-use Rattle.fraction.specs.Time.{_≤ᵗ_, _<ᵗ_, fraction}
-use Rattle.fraction.proofs.TimeOrder.{≈ᵗ-refl}
+use Rattle.fraction.specs.declared.Fraction.{Fraction}
+use Rattle.fraction.specs.Time.{_≤ᵗ_, _<ᵗ_, asTime}
+use Rattle.fraction.proofs.TimeOrder.{≈ᵗ-refl, told-not-later, told-later}
 use Rattle.sheet.specs.Listing.{Listing}
 use Rattle.sheet.specs.declared.Track.{Track}
-use Rattle.fraction.specs.Small.{Small}
+use Rattle.fraction.specs.Sizes.{Timely}
 use Rattle.contact.specs.declared.Touch.{Touch}
 use Rattle.contact.specs.declared.Touch.the-variants.{Hit}
 use Rattle.rule.specs.Causes as rule
@@ -19,18 +19,12 @@ use Rattle.cause.specs.declared.Cause.{Cause}
 use Rattle.cause.specs.Cause.{candOf, Stands, Comes, in-time, in-class, in-id, Tells, Least}
 use Rattle.cause.specs.Offer.{tipCause, Taken}
 
-module _ {n d m e : ℕ} (p : Small n d) (q : Small m e) where
-  pub not-later : leb (n * e) (m * d) ≡ true → fraction n d ≤ᵗ fraction m e
-  not-later h =
-      let x : suc (pred d) ≡ d = omega arith in
-      let y : suc (pred e) ≡ e = omega arith in
-      record { le = rw (x, y) (leb-true (n * e) (m * d) h) }
+module _ {a b : Fraction} (p : Timely a) (q : Timely b) where
+  pub not-later : leb (a .num * b .den) (b .num * a .den) ≡ true → asTime a ≤ᵗ asTime b
+  not-later h = told-not-later a b (p .den-pos) (q .den-pos) h
 
-  pub later : leb (n * e) (m * d) ≡ false → fraction m e <ᵗ fraction n d
-  later h =
-      let x : suc (pred d) ≡ d = omega arith in
-      let y : suc (pred e) ≡ e = omega arith in
-      record { lt = rw (x, y) (leb-false (n * e) (m * d) h) }
+  pub later : leb (a .num * b .den) (b .num * a .den) ≡ false → asTime b <ᵗ asTime a
+  later h = told-later a b (p .den-pos) (q .den-pos) h
 
 pub ≼-self : (c : Cand) → c ≼ c
 ≼-self c = rule.in-id (≈ᵗ-refl (c .u)) refl (omega arith)
@@ -71,9 +65,9 @@ module _ (S : Listing) (t : Track) {a b r : Cause} (p : Stands S t a) (q : Stand
   first-of h = (first-stands h, first-left h, first-right h)
 
 -- a track that the tip comes to: by the answer of the test, c or the track
-module _ (b : Track) (k : ℕ) {c : Cause} {t : Touch} {u ud s sd : ℕ} (hits : t ≡ Hit u ud s sd) {r : Bool} (told : Tells c (tipCause b k u ud s sd) r) where
+module _ (b : Track) (k : ℕ) {c : Cause} {t : Touch} {u s : Fraction} (hits : t ≡ Hit u s) {r : Bool} (told : Tells c (tipCause b k u s) r) where
   pub taken-first : r ≡ true → Taken b k t c c
   taken-first e = subst (λ (z : Touch). Taken b k z c c) (sym hits) (least-first told e)
 
-  pub taken-second : r ≡ false → Taken b k t c (tipCause b k u ud s sd)
-  taken-second e = subst (λ (z : Touch). Taken b k z c (tipCause b k u ud s sd)) (sym hits) (least-second told e)
+  pub taken-second : r ≡ false → Taken b k t c (tipCause b k u s)
+  taken-second e = subst (λ (z : Touch). Taken b k z c (tipCause b k u s)) (sym hits) (least-second told e)

@@ -5,8 +5,9 @@ use mathlib.Core.Path.{_≡_, refl, sym, subst}
 use Prim.Native.Nat.{ℕ, zero, suc, _<_}
 use native.Mathlib.Omega.{arith}
 use lib.ListN.{length}
-use Rattle.fraction.specs.Small.{Small}
-use Rattle.fraction.specs.Time.{Time, _≤ᵗ_, _≈ᵗ_, fraction}
+use Rattle.fraction.specs.Sizes.{Timely}
+use Rattle.fraction.specs.declared.Fraction.{Fraction}
+use Rattle.fraction.specs.Time.{Time, _≤ᵗ_, _≈ᵗ_, asTime}
 use Rattle.fraction.proofs.TimeOrder.{≈ᵗ-sym, ≈ᵗ→≤ᵗ, ≤ᵗ-trans, ≤ᵗ-<ᵗ-trans, ≈ᵗ-refl}
 use Rattle.sheet.specs.Accepted.{Accepted}
 use Rattle.sheet.specs.Listing.{Listing, _∈_}
@@ -14,7 +15,7 @@ use Rattle.sheet.specs.HandedIn.{noTrack, noWall}
 use Rattle.sheet.specs.declared.Track.{Track}
 use Rattle.sheet.specs.declared.Wall.{Wall}
 use Rattle.sheet.proofs.Lists.{mem-at}
-use Rattle.contact.specs.Answers.{TouchSmall}
+use Rattle.contact.specs.Answers.{TouchTimely}
 use Rattle.contact.specs.declared.Touch.{Touch}
 use Rattle.contact.specs.declared.Touch.the-variants.{Nowhere, Hit}
 use Rattle.rule.specs.declared.Row.{Row}
@@ -30,9 +31,9 @@ use Rattle.rule.proofs.Selection.{up-fresh}
 use Rattle.rule.proofs.Turn.{beats-better, beats-none, beats-hit, beats-void}
 use Rattle.cause.specs.declared.Cause.{Cause}
 use Rattle.cause.specs.Cause.{tipAt, wallAt, whyOf, candOf, Fine, Stands, Least}
-use Rattle.cause.specs.Offer.{AtEdge, wallCause, WallOffered, passed, struck, tipCause, Reached, itself, missed, void, met, Taken, TipOffered}
+use Rattle.cause.specs.Offer.{edgeCause, AtEdge, wallCause, WallOffered, passed, struck, tipCause, Reached, itself, missed, void, met, Taken, TipOffered}
 use Rattle.cause.specs.Looked.{Gone, FirstOfTracks}
-use Rattle.cause.proofs.Answers.{small-zero, reached-small}
+use Rattle.cause.proofs.Answers.{unused-timely, reached-timely}
 use Rattle.cause.proofs.First.{≼-self, first-stands, first-left, first-right}
 
 -- a wall or the edge counts whatever has ended
@@ -55,17 +56,17 @@ pub record OfEdge (S : Listing) (a : Track) (c : Cause) : Type 0 where
   pub no-track : 0 < c .class
 
 module _ (S : Listing) (a : Track) where
-  edge-stands : (u ud : ℕ) → Small u ud → fraction u ud ≡ rim a → OfEdge S a (record { u = u; ud = ud; class = 2; id = 0; who = 0; s = 0; sd = 1 })
+  edge-stands : (u : Fraction) → Timely u → asTime u ≡ rim a → OfEdge S a (edgeCause u)
   unfolding whyOf
-  edge-stands u ud h e =
+  edge-stands u h e =
       record {
-        stands = record { fine = record { at = h; there = small-zero }; formal = e; ranked = refl; named = refl; known = λ z. absurd (omega arith); id-in = omega arith };
-        at-rim = rule.in-id (subst (λ (z : Time). fraction u ud ≈ᵗ z) e (≈ᵗ-refl (fraction u ud))) refl (omega arith);
+        stands = record { fine = record { at = h; there = unused-timely }; formal = e; ranked = refl; named = refl; known = λ z. absurd (omega arith); id-in = omega arith };
+        at-rim = rule.in-id (subst (λ (z : Time). asTime u ≈ᵗ z) e (≈ᵗ-refl (asTime u))) refl (omega arith);
         no-track = omega arith;
       }
 
   pub edge-first : {c : Cause} → AtEdge a c → OfEdge S a c
-  edge-first e = subst (OfEdge S a) (sym (e .is)) (edge-stands (e .u) (e .ud) (e .small) (e .last))
+  edge-first e = subst (OfEdge S a) (sym (e .is)) (edge-stands (e .u) (e .timely) (e .last))
 
 -- ---- walls
 
@@ -97,11 +98,11 @@ module _ {S : Listing} {a : Track} {K : ℕ → Type 0} where
   walls-none {c} f s = record { stands = s; first = ≼-self (candOf S c); no-track = λ h. h; at-walls = λ j l k. absurd (f j k) }
 
 module _ (S : Listing) (acc : Accepted S) (a : Track) (k : ℕ) (in-walls : k < length (S .walls)) where
-  wall-stands : (u ud : ℕ) → Small u ud → wallTime a (wallAt S k) ≡ when (fraction u ud) → Stands S a (wallCause (wallAt S k) k u ud)
+  wall-stands : (u : Fraction) → Timely u → wallTime a (wallAt S k) ≡ when (asTime u) → Stands S a (wallCause (wallAt S k) k u)
   unfolding whyOf
-  wall-stands u ud h e =
+  wall-stands u h e =
       record {
-        fine = record { at = h; there = small-zero };
+        fine = record { at = h; there = unused-timely };
         formal = (mem-at noWall (S .walls) k in-walls, e);
         ranked = refl;
         named = refl;
@@ -109,21 +110,21 @@ module _ (S : Listing) (acc : Accepted S) (a : Track) (k : ℕ) (in-walls : k < 
         id-in = acc .walls-ok (wallAt S k) (mem-at noWall (S .walls) k in-walls) .id-in;
       }
 
-  wall-hit : {c r : Cause} (u ud : ℕ) → Stands S a c → wallTime a (wallAt S k) ≡ when (fraction u ud) → Small u ud → Least c (wallCause (wallAt S k) k u ud) r → FirstOfSomeWalls S a (λ (j : ℕ). j ≡ k) c r
+  wall-hit : {c r : Cause} (u : Fraction) → Stands S a c → wallTime a (wallAt S k) ≡ when (asTime u) → Timely u → Least c (wallCause (wallAt S k) k u) r → FirstOfSomeWalls S a (λ (j : ℕ). j ≡ k) c r
   unfolding whyOf
-  wall-hit {c} {r} u ud s e h l =
-      let w = wall-stands u ud h e in
-      let right : Below (candOf S r) (fraction u ud) (by-side (wallAt S k)) = first-right S a s w l in
+  wall-hit {c} {r} u s e h l =
+      let w = wall-stands u h e in
+      let right : Below (candOf S r) (asTime u) (by-side (wallAt S k)) = first-right S a s w l in
       record {
         stands = first-stands S a s w l;
         first = first-left S a s w l;
         no-track = go l;
         at-walls = λ j i m v f.
             subst (λ (i : ℕ). wallTime a (wallAt S i) ≡ when v → Below (candOf S r) v (by-side (wallAt S i))) (sym m)
-            (λ g. let p : fraction u ud ≡ v = cc in subst (λ (z : Time). Below (candOf S r) z (by-side (wallAt S k))) p right) f;
+            (λ g. let p : asTime u ≡ v = cc in subst (λ (z : Time). Below (candOf S r) z (by-side (wallAt S k))) p right) f;
       }
     where
-      go : Least c (wallCause (wallAt S k) k u ud) r → 0 < c .class → 0 < r .class
+      go : Least c (wallCause (wallAt S k) k u) r → 0 < c .class → 0 < r .class
       go (inl (x, y)) z = subst (λ (z : Cause). 0 < z .class) (sym x) z
       go (inr (x, y)) z = subst (λ (z : Cause). 0 < z .class) (sym x) (omega arith)
 
@@ -140,7 +141,7 @@ module _ (S : Listing) (acc : Accepted S) (a : Track) (k : ℕ) (in-walls : k < 
 
   pub wall-next : {c r : Cause} → Stands S a c → WallOffered a (wallAt S k) k c r → FirstOfSomeWalls S a (λ (j : ℕ). j ≡ k) c r
   wall-next {c} s (passed e x) = subst (FirstOfSomeWalls S a (λ (j : ℕ). j ≡ k) c) (sym x) (wall-none s e)
-  wall-next s (struck u ud e h l) = wall-hit u ud s e h l
+  wall-next s (struck u e h l) = wall-hit u s e h l
 
 -- ---- tracks
 
@@ -171,9 +172,9 @@ module _ (S : Listing) (acc : Accepted S) (a : Track) (here : a ∈ S .tracks) (
   there : b ∈ S .tracks
   there = mem-at noTrack (S .tracks) k in-tracks
 
-  tip-stands : (u ud s sd : ℕ) → b .id ≢ a .id → Small u ud → Small s sd → contact a b ≡ hit (fraction u ud) (fraction s sd) → Stands S a (tipCause b k u ud s sd)
+  tip-stands : (u s : Fraction) → b .id ≢ a .id → Timely u → Timely s → contact a b ≡ hit (asTime u) (asTime s) → Stands S a (tipCause b k u s)
   unfolding whyOf
-  tip-stands u ud s sd n h g e =
+  tip-stands u s n h g e =
       record {
         fine = record { at = h; there = g };
         formal = (there, n, e);
@@ -183,8 +184,8 @@ module _ (S : Listing) (acc : Accepted S) (a : Track) (here : a ∈ S .tracks) (
         id-in = acc .tracks-ok b there .id-in;
       }
 
-  -- the tip at k has not ended (`ended` is 0), or has at e / ed
-  module _ (ended en ed : ℕ) (done : List Row) (fresh : ended ≡ 0 → Fresh done b) (gone : (ended ≡ 0 → ⊥) → Gone done b (fraction en ed)) where
+  -- the tip at k has not ended (`ended` is 0), or has at `end`
+  module _ (ended : ℕ) (end : Fraction) (done : List Row) (fresh : ended ≡ 0 → Fresh done b) (gone : (ended ≡ 0 → ⊥) → Gone done b (asTime end)) where
     -- nothing more to beat
     tip-skip : {c : Cause} → Stands S a c → (b .id ≢ a .id → Beats done (candOf S c) a b) → FirstOfTracks S done a (λ (j : ℕ). j ≡ k) c c
     tip-skip {c} s f =
@@ -196,47 +197,47 @@ module _ (S : Listing) (acc : Accepted S) (a : Track) (here : a ∈ S .tracks) (
         }
 
     -- its own end, against the time at which the tip at k was there
-    tip-live : (u s : Time) → b .id ≢ a .id → contact a b ≡ hit u s → (ended ≡ 0) ⊎ ((ended ≡ 0 → ⊥) × (s ≤ᵗ fraction en ed)) → s ≤ᵗ upTo done u (b .id)
+    tip-live : (u s : Time) → b .id ≢ a .id → contact a b ≡ hit u s → (ended ≡ 0) ⊎ ((ended ≡ 0 → ⊥) × (s ≤ᵗ asTime end)) → s ≤ᵗ upTo done u (b .id)
     tip-live u s n h (inl x) =
         subst (λ (z : Time). s ≤ᵗ z) (sym (up-fresh u done b (fresh x))) (contact-hit (contact a b) (contact-of acc here b there n) h .1)
     tip-live u s n h (inr (x, y)) = ≤ᵗ-trans y (≈ᵗ→≤ᵗ (≈ᵗ-sym (gone x .stops u)))
 
-    tip-hit : {c r : Cause} (u ud s sd : ℕ) → Stands S a c → b .id ≢ a .id → contact a b ≡ hit (fraction u ud) (fraction s sd) → (ended ≡ 0) ⊎ ((ended ≡ 0 → ⊥) × (fraction s sd ≤ᵗ fraction en ed)) → Small u ud → Small s sd →
-        Least c (tipCause b k u ud s sd) r → FirstOfTracks S done a (λ (j : ℕ). j ≡ k) c r
+    tip-hit : {c r : Cause} (u s : Fraction) → Stands S a c → b .id ≢ a .id → contact a b ≡ hit (asTime u) (asTime s) → (ended ≡ 0) ⊎ ((ended ≡ 0 → ⊥) × (asTime s ≤ᵗ asTime end)) → Timely u → Timely s →
+        Least c (tipCause b k u s) r → FirstOfTracks S done a (λ (j : ℕ). j ≡ k) c r
     unfolding whyOf
-    tip-hit {c} {r} u ud s sd p n e q h g l =
-        let w = tip-stands u ud s sd n h g e in
-        let right : Below (candOf S r) (fraction u ud) (by-tip b (fraction s sd)) = first-right S a p w l in
+    tip-hit {c} {r} u s p n e q h g l =
+        let w = tip-stands u s n h g e in
+        let right : Below (candOf S r) (asTime u) (by-tip b (asTime s)) = first-right S a p w l in
         record {
           stands = first-stands S a p w l;
           first = first-left S a p w l;
-          live = λ y. go y (tip-live (fraction u ud) (fraction s sd) n e q) l;
-          at-tips = λ j i m. subst (λ (i : ℕ). tipAt S i .id ≢ a .id → Beats done (candOf S r) a (tipAt S i)) (sym m) (λ y. beats-hit (fraction u ud) (fraction s sd) e right);
+          live = λ y. go y (tip-live (asTime u) (asTime s) n e q) l;
+          at-tips = λ j i m. subst (λ (i : ℕ). tipAt S i .id ≢ a .id → Beats done (candOf S r) a (tipAt S i)) (sym m) (λ y. beats-hit (asTime u) (asTime s) e right);
         }
       where
-        go : Live done (candOf S c .u) (candOf S c .why) → fraction s sd ≤ᵗ upTo done (fraction u ud) (b .id) → Least c (tipCause b k u ud s sd) r → Live done (candOf S r .u) (candOf S r .why)
+        go : Live done (candOf S c .u) (candOf S c .why) → asTime s ≤ᵗ upTo done (asTime u) (b .id) → Least c (tipCause b k u s) r → Live done (candOf S r .u) (candOf S r .why)
         go y z (inl (x, _)) = subst (λ (z : Cause). Live done (candOf S z .u) (candOf S z .why)) (sym x) y
         go y z (inr (x, _)) = subst (λ (z : Cause). Live done (candOf S z .u) (candOf S z .why)) (sym x) z
 
-    tip-taken : {c r : Cause} {t : Touch} → Stands S a c → Reached a b ended en ed t → Taken b k t c r → FirstOfTracks S done a (λ (j : ℕ). j ≡ k) c r
+    tip-taken : {c r : Cause} {t : Touch} → Stands S a c → Reached a b ended end t → Taken b k t c r → FirstOfTracks S done a (λ (j : ℕ). j ≡ k) c r
     tip-taken {c} {r} s (itself e x) l = subst (FirstOfTracks S done a (λ (j : ℕ). j ≡ k) c) (sym (subst (λ (z : Touch). Taken b k z c r) x l)) (tip-skip s (λ n. absurd (n e)))
     tip-taken {c} {r} s (missed e x) l = subst (FirstOfTracks S done a (λ (j : ℕ). j ≡ k) c) (sym (subst (λ (z : Touch). Taken b k z c r) x l)) (tip-skip s (λ n. beats-none e))
     tip-taken {c} {r} s (void u v e n h x) l =
         subst (FirstOfTracks S done a (λ (j : ℕ). j ≡ k) c) (sym (subst (λ (z : Touch). Taken b k z c r) x l)) (tip-skip s (λ y. beats-void u v e (≤ᵗ-<ᵗ-trans (≈ᵗ→≤ᵗ (gone n .stops u)) h)))
-    tip-taken {c} {r} s (met u ud v vd n e q h g x) l = tip-hit u ud v vd s n e q h g (subst (λ (z : Touch). Taken b k z c r) x l)
+    tip-taken {c} {r} s (met u v n e q h g x) l = tip-hit u v s n e q h g (subst (λ (z : Touch). Taken b k z c r) x l)
 
-    pub tip-looked : {c r : Cause} → Stands S a c → TipOffered a b k ended en ed c r → FirstOfTracks S done a (λ (j : ℕ). j ≡ k) c r
+    pub tip-looked : {c r : Cause} → Stands S a c → TipOffered a b k ended end c r → FirstOfTracks S done a (λ (j : ℕ). j ≡ k) c r
     tip-looked s o = tip-taken s (o .reached) (o .taken)
 
 -- ---- numbers of times, whatever the sheet
 
 pub wall-fine : {a : Track} {w : Wall} {k : ℕ} {c r : Cause} → Fine c → WallOffered a w k c r → Fine r
 wall-fine p (passed e x) = subst Fine (sym x) p
-wall-fine p (struck u ud e h l) = first-fine p (record { at = h; there = small-zero }) l
+wall-fine p (struck u e h l) = first-fine p (record { at = h; there = unused-timely }) l
 
-taken-fine : (b : Track) (k : ℕ) {c r : Cause} (t : Touch) → Fine c → TouchSmall t → Taken b k t c r → Fine r
+taken-fine : (b : Track) (k : ℕ) {c r : Cause} (t : Touch) → Fine c → TouchTimely t → Taken b k t c r → Fine r
 taken-fine b k Nowhere p h l = subst Fine (sym l) p
-taken-fine b k (Hit u ud s sd) p h l = first-fine p (record { at = h .0; there = h .1 }) l
+taken-fine b k (Hit u s) p h l = first-fine p (record { at = h .0; there = h .1 }) l
 
-pub tip-fine : {a b : Track} {k ended n d : ℕ} {c r : Cause} → Fine c → TipOffered a b k ended n d c r → Fine r
-tip-fine {a} {b} {k} p o = taken-fine b k (o .touch) p (reached-small (o .reached)) (o .taken)
+pub tip-fine : {a b : Track} {k ended : ℕ} {end : Fraction} {c r : Cause} → Fine c → TipOffered a b k ended end c r → Fine r
+tip-fine {a} {b} {k} p o = taken-fine b k (o .touch) p (reached-timely (o .reached)) (o .taken)

@@ -4,14 +4,14 @@ use mathlib.Core.Path.{_≡_}
 use mathlib.Core.Logic.{_⊎_}
 use Prim.Native.Nat.{ℕ, zero, suc, _≤_, _<_}
 use lib.ListN.{length, getD}
-use Rattle.fraction.specs.Time.{Time, _<ᵗ_, _≈ᵗ_, fraction}
+use Rattle.fraction.specs.Time.{Time, _<ᵗ_, _≈ᵗ_, asTime}
 use Rattle.sheet.specs.declared.Track.{Track}
 use Rattle.sheet.specs.declared.Wall.{Wall}
 use Rattle.sheet.specs.Listing.{Listing}
 use Rattle.sheet.specs.HandedIn.{noTrack, noWall}
 use Rattle.rule.specs.Causes.{Why, by-tip, by-side, by-rim, Cand, cls, who}
 use Rattle.rule.specs.Meanwhile.{Formal}
-use Rattle.fraction.specs.Small.{Small}
+use Rattle.fraction.specs.Sizes.{Timely}
 use Rattle.cause.specs.declared.Cause.{Cause}
 
 -- the track and the wall at a place of the sheet
@@ -27,12 +27,12 @@ whyOf S (suc zero) k s = by-side (wallAt S k)
 whyOf S (suc (suc n)) k s = by-rim
 
 abbrev pub candOf : Listing → Cause → Cand
-candOf S c = record { u = fraction (c .u) (c .ud); why = whyOf S (c .class) (c .who) (fraction (c .s) (c .sd)) }
+candOf S c = record { u = asTime (c .at); why = whyOf S (c .class) (c .who) (asTime (c .there)) }
 
--- its numbers are those of times
+-- its times can be compared
 pub record Fine (c : Cause) : Type 0 where
-  pub at : Small (c .u) (c .ud)
-  pub there : Small (c .s) (c .sd)
+  pub at : Timely (c .at)
+  pub there : Timely (c .there)
 
 -- c is a contact, a wall or the edge of tip a, with its class and its partner's id
 pub record Stands (S : Listing) (a : Track) (c : Cause) : Type 0 where
@@ -45,9 +45,9 @@ pub record Stands (S : Listing) (a : Track) (c : Cause) : Type 0 where
 
 -- by time, then tracks, walls and the edge in this order, then by id (SHEETS 4.6, 4.9)
 pub data Comes (a b : Cause) : Type 0 where
-  in-time : fraction (a .u) (a .ud) <ᵗ fraction (b .u) (b .ud) → Comes a b
-  in-class : fraction (a .u) (a .ud) ≈ᵗ fraction (b .u) (b .ud) → a .class < b .class → Comes a b
-  in-id : fraction (a .u) (a .ud) ≈ᵗ fraction (b .u) (b .ud) → a .class ≡ b .class → a .id ≤ b .id → Comes a b
+  in-time : asTime (a .at) <ᵗ asTime (b .at) → Comes a b
+  in-class : asTime (a .at) ≈ᵗ asTime (b .at) → a .class < b .class → Comes a b
+  in-id : asTime (a .at) ≈ᵗ asTime (b .at) → a .class ≡ b .class → a .id ≤ b .id → Comes a b
 
 -- r tells which of a and b comes first
 pub record Tells (a b : Cause) (r : Bool) : Type 0 where

@@ -2,51 +2,58 @@
 use mathlib.Core.Path.{_≡_}
 use mathlib.Core.Logic.{_⊎_}
 use Prim.Native.Nat.{ℕ}
-use Rattle.fraction.specs.Time.{Time, _≤ᵗ_, _<ᵗ_, fraction}
+use Rattle.fraction.specs.declared.Fraction.{Fraction}
+use Rattle.fraction.specs.Time.{Time, _≤ᵗ_, _<ᵗ_, asTime}
 use Rattle.sheet.specs.declared.Track.{Track}
 use Rattle.sheet.specs.declared.Wall.{Wall}
 use Rattle.rule.specs.Contact.{never, when, nowhere, hit, contact}
 use Rattle.rule.specs.WallTime.{wallTime}
 use Rattle.rule.specs.EdgeTime.{rim}
-use Rattle.fraction.specs.Small.{Small}
+use Rattle.fraction.specs.Sizes.{Timely}
 use Rattle.contact.specs.declared.Touch.{Touch}
 use Rattle.contact.specs.declared.Touch.the-variants.{Nowhere, Hit}
 use Rattle.cause.specs.declared.Cause.{Cause}
 use Rattle.cause.specs.Cause.{Least}
 
+-- what walls and the edge have in place of a time
+abbrev pub unused : Fraction
+unused = record { num = 0; den = 1 }
+
+abbrev pub edgeCause : Fraction → Cause
+edgeCause u = record { at = u; class = 2; id = 0; who = 0; there = unused }
+
 -- the edge
 pub record AtEdge (a : Track) (r : Cause) : Type 0 where
-  pub u : ℕ
-  pub ud : ℕ
-  pub small : Small u ud
-  pub is : r ≡ record { u = u; ud = ud; class = 2; id = 0; who = 0; s = 0; sd = 1 }
-  pub last : fraction u ud ≡ rim a
+  pub u : Fraction
+  pub timely : Timely u
+  pub is : r ≡ edgeCause u
+  pub last : asTime u ≡ rim a
 
-abbrev pub wallCause : Wall → ℕ → ℕ → ℕ → Cause
-wallCause w k u ud = record { u = u; ud = ud; class = 1; id = w .id; who = k; s = 0; sd = 1 }
+abbrev pub wallCause : Wall → ℕ → Fraction → Cause
+wallCause w k u = record { at = u; class = 1; id = w .id; who = k; there = unused }
 
 -- r is the first of c and the wall w
 pub data WallOffered (a : Track) (w : Wall) (k : ℕ) (c r : Cause) : Type 0 where
   passed : wallTime a w ≡ never → r ≡ c → WallOffered a w k c r
-  struck : (u ud : ℕ) → wallTime a w ≡ when (fraction u ud) → Small u ud → Least c (wallCause w k u ud) r → WallOffered a w k c r
+  struck : (u : Fraction) → wallTime a w ≡ when (asTime u) → Timely u → Least c (wallCause w k u) r → WallOffered a w k c r
 
-abbrev pub tipCause : Track → ℕ → ℕ → ℕ → ℕ → ℕ → Cause
-tipCause b k u ud s sd = record { u = u; ud = ud; class = 0; id = b .id; who = k; s = s; sd = sd }
+abbrev pub tipCause : Track → ℕ → Fraction → Fraction → Cause
+tipCause b k u s = record { at = u; class = 0; id = b .id; who = k; there = s }
 
--- t is where tip a comes to the trace of b: nowhere if tip b, which has ended at e / ed unless `ended` is 0, ended before it would have been there (SHEETS 4.5)
-pub data Reached (a b : Track) (ended e ed : ℕ) (t : Touch) : Type 0 where
-  itself : b .id ≡ a .id → t ≡ Nowhere → Reached a b ended e ed t
-  missed : contact a b ≡ nowhere → t ≡ Nowhere → Reached a b ended e ed t
-  void : (u s : Time) → contact a b ≡ hit u s → (ended ≡ 0 → ⊥) → fraction e ed <ᵗ s → t ≡ Nowhere → Reached a b ended e ed t
-  met : (u ud s sd : ℕ) → (b .id ≡ a .id → ⊥) → contact a b ≡ hit (fraction u ud) (fraction s sd) → (ended ≡ 0) ⊎ ((ended ≡ 0 → ⊥) × (fraction s sd ≤ᵗ fraction e ed)) → Small u ud → Small s sd → t ≡ Hit u ud s sd → Reached a b ended e ed t
+-- t is where tip a comes to the trace of b: nowhere if tip b, which has ended at `end` unless `ended` is 0, ended before it would have been there (SHEETS 4.5)
+pub data Reached (a b : Track) (ended : ℕ) (end : Fraction) (t : Touch) : Type 0 where
+  itself : b .id ≡ a .id → t ≡ Nowhere → Reached a b ended end t
+  missed : contact a b ≡ nowhere → t ≡ Nowhere → Reached a b ended end t
+  void : (u s : Time) → contact a b ≡ hit u s → (ended ≡ 0 → ⊥) → asTime end <ᵗ s → t ≡ Nowhere → Reached a b ended end t
+  met : (u s : Fraction) → (b .id ≡ a .id → ⊥) → contact a b ≡ hit (asTime u) (asTime s) → (ended ≡ 0) ⊎ ((ended ≡ 0 → ⊥) × (asTime s ≤ᵗ asTime end)) → Timely u → Timely s → t ≡ Hit u s → Reached a b ended end t
 
 -- r is the first of c and the track b, which the tip comes to by t
 abbrev pub Taken : Track → ℕ → Touch → Cause → Cause → Type 0
 Taken b k Nowhere c r = r ≡ c
-Taken b k (Hit u ud s sd) c r = Least c (tipCause b k u ud s sd) r
+Taken b k (Hit u s) c r = Least c (tipCause b k u s) r
 
 -- r is the first of c and the track b
-pub record TipOffered (a b : Track) (k ended e ed : ℕ) (c r : Cause) : Type 0 where
+pub record TipOffered (a b : Track) (k ended : ℕ) (end : Fraction) (c r : Cause) : Type 0 where
   pub touch : Touch
-  pub reached : Reached a b ended e ed touch
+  pub reached : Reached a b ended end touch
   pub taken : Taken b k touch c r

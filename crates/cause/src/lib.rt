@@ -3,26 +3,25 @@ ghost use mathlib.Core.Path.{_≡_};
 ghost use mathlib.Core.Bool.{true, false};
 ghost use Prim.Native.Nat.{_≤_, _<_};
 ghost use Rattle.sheet.specs.Accepted.{TrackOk, WallOk};
-ghost use Rattle.fraction.specs.Small.{Small};
-ghost use Rattle.contact.specs.Answers.{TouchSmall};
+ghost use Rattle.fraction.specs.Sizes.{Timely};
+ghost use Rattle.contact.specs.Answers.{TouchTimely};
 ghost use Rattle.cause.specs.Cause.{Fine, Tells, Least};
 ghost use Rattle.cause.specs.Offer.{AtEdge, WallOffered, Reached, Taken};
 ghost use Rattle.cause.specs.Looked.{Reaches};
 use contact::Moment;
 use contact::Touch;
+use fraction::Fraction;
 use sheet::Track;
 use sheet::Wall;
 
-// A cause at u / ud. The class is 0 for a track, 1 for a wall, 2 for the edge; id is the partner's, 0 for the edge,
-// who its index among the sheet's tracks or walls; a track was there at s / sd.
+// What ends a tip, and when. The class is 0 for a track, 1 for a wall, 2 for the edge; id is the partner's, 0 for the edge,
+// who its index among the sheet's tracks or walls; `there` is when a track was there.
 pub struct Cause {
-    pub u: u64,
-    pub ud: u64,
+    pub at: Fraction,
     pub class: u64,
     pub id: u64,
     pub who: u64,
-    pub s: u64,
-    pub sd: u64,
+    pub there: Fraction,
 }
 
 // Does a come before b: by time, then tracks, walls and the edge in this order, then by id (SHEETS 4.6, 4.9)?
@@ -30,8 +29,10 @@ fn ahead(a: Cause, b: Cause) -> bool
     requires { ⌜ Fine a × Fine b ⌝ }
     ensures { λ r. ⌜ Tells a b r ⌝ }
 {
-    if contact::not_later(a.u, a.ud, b.u, b.ud) {
-        if contact::not_later(b.u, b.ud, a.u, a.ud) {
+    let s = a.at;
+    let t = b.at;
+    if fraction::not_later(s, t) {
+        if fraction::not_later(t, s) {
             if a.class < b.class {
                 return true;
             }
@@ -64,24 +65,21 @@ pub fn edge_cause(a: Track) -> Cause
     requires { ⌜ TrackOk a ⌝ }
     ensures { λ r. ⌜ AtEdge a r ⌝ }
 {
+    let there = Fraction { num: 0, den: 1 };
     match contact::edge_of(a) {
         Moment::Never => Cause {
-            u: 0,
-            ud: 1,
+            at: there,
             class: 2,
             id: 0,
             who: 0,
-            s: 0,
-            sd: 1,
+            there,
         },
-        Moment::At(u, ud) => Cause {
-            u,
-            ud,
+        Moment::At(at) => Cause {
+            at,
             class: 2,
             id: 0,
             who: 0,
-            s: 0,
-            sd: 1,
+            there,
         },
     }
 }
@@ -93,17 +91,16 @@ pub fn with_wall(c: Cause, a: Track, w: Wall, k: usize) -> Cause
 {
     match contact::wall_of(a, w) {
         Moment::Never => c,
-        Moment::At(u, ud) => {
+        Moment::At(at) => {
             let id = w.id as u64;
             let who = k as u64;
+            let there = Fraction { num: 0, den: 1 };
             let found = Cause {
-                u,
-                ud,
+                at,
                 class: 1,
                 id,
                 who,
-                s: 0,
-                sd: 1,
+                there,
             };
             if ahead(c, found) {
                 return c;
@@ -113,22 +110,22 @@ pub fn with_wall(c: Cause, a: Track, w: Wall, k: usize) -> Cause
     }
 }
 
-// Where tip a comes to the trace of b: nowhere if that is its own, or if b's tip ended, at e / ed, before it was there.
-pub fn on_trace(a: Track, b: Track, ended: u64, e: u64, ed: u64) -> Touch
-    requires { ⌜ TrackOk a × TrackOk b × ((ended ≡ 0 → ⊥) → Small e ed) ⌝ }
-    ensures { λ r. ⌜ Reached a b ended e ed r ⌝ }
+// Where tip a comes to the trace of b: nowhere if that is its own, or if b's tip ended, at `end`, before it was there.
+pub fn on_trace(a: Track, b: Track, ended: u64, end: Fraction) -> Touch
+    requires { ⌜ TrackOk a × TrackOk b × ((ended ≡ 0 → ⊥) → Timely end) ⌝ }
+    ensures { λ r. ⌜ Reached a b ended end r ⌝ }
 {
     if b.id == a.id {
         return Touch::Nowhere;
     }
     match contact::contact_of(a, b) {
         Touch::Nowhere => Touch::Nowhere,
-        Touch::Hit { u, ud, s, sd } => {
+        Touch::Hit { at, there } => {
             if ended == 0 {
-                return Touch::Hit { u, ud, s, sd };
+                return Touch::Hit { at, there };
             }
-            if contact::not_later(s, sd, e, ed) {
-                return Touch::Hit { u, ud, s, sd };
+            if fraction::not_later(there, end) {
+                return Touch::Hit { at, there };
             }
             Touch::Nowhere
         }
@@ -137,22 +134,20 @@ pub fn on_trace(a: Track, b: Track, ended: u64, e: u64, ed: u64) -> Touch
 
 // The first of c and the track b, the sheet's k-th, which the tip comes to by t. Apart from `on_trace`, so that a tip which comes to nothing costs no copy of c; it tests for itself in place of `least`, since a cause chosen from two places is kept in memory.
 pub fn with_track(c: Cause, b: Track, k: usize, t: Touch) -> Cause
-    requires { ⌜ Fine c × TouchSmall t ⌝ }
+    requires { ⌜ Fine c × TouchTimely t ⌝ }
     ensures { λ r. ⌜ Taken b k t c r ⌝ }
 {
     match t {
         Touch::Nowhere => c,
-        Touch::Hit { u, ud, s, sd } => {
+        Touch::Hit { at, there } => {
             let id = b.id as u64;
             let who = k as u64;
             let found = Cause {
-                u,
-                ud,
+                at,
                 class: 0,
                 id,
                 who,
-                s,
-                sd,
+                there,
             };
             if ahead(c, found) {
                 return c;

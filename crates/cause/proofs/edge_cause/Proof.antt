@@ -10,14 +10,14 @@ edge-of-requires c κs = search needs
 enum-told : tie.Need-enum-told
 enum-told c = search needs
 
-enum-known-u : tie.Need-enum-known-u
-enum-known-u c = search needs
+enum-known-at : tie.Need-enum-known-at
+enum-known-at c = search needs
 
 returns : tie.Need-returns
 returns c = edge-never (c .enum-told .given .1) (c .before .before .edge-of .ensures .2)
 
 returns-2 : tie.Need-returns-2
-returns-2 c = edge-at (c .before .before .before .before .args .a) (c .before .u .given .1) (c .before .before .before .edge-of .ensures .1) (c .before .before .before .edge-of .ensures .2)
+returns-2 c = edge-at (c .before .before .before .before .args .a) (c .before .at .given .1) (c .before .before .before .edge-of .ensures .1) (c .before .before .before .edge-of .ensures .2)
 
 pub edge-cause-spec : {M : Type 1} → statement M
-edge-cause-spec = tie.close (tie.spec edge-of-requires enum-told enum-known-u returns returns-2)
+edge-cause-spec = tie.close (tie.spec edge-of-requires enum-told enum-known-at returns returns-2)

@@ -2,7 +2,7 @@
 use mathlib.Core.Path.{refl, sym, subst}
 use Rattle.contact.specs.declared.Touch.{Touch}
 use Rattle.cause.specs.Offer.{Taken}
-use Rattle.cause.proofs.Answers.{hit-small}
+use Rattle.cause.proofs.Answers.{hit-timely}
 use Rattle.cause.proofs.First.{taken-first, taken-second}
 use borrow.Author.Needs.{needs}
 use Rattle.cause.proofs.with_track.Statement.{statement}
@@ -18,7 +18,7 @@ cast-id : tie.Need-cast-id
 cast-id c = search needs
 
 ahead-requires : tie.Need-ahead-requires
-ahead-requires c κs = let q = hit-small (c .before .before .t .given .1) (c .before .before .before .before .pre .1) in (c .before .before .before .before .pre .0, record { at = q .0; there = q .1 })
+ahead-requires c κs = let q = hit-timely (c .before .before .t .given .1) (c .before .before .before .before .pre .1) in (c .before .before .before .before .pre .0, record { at = q .0; there = q .1 })
 
 returns : tie.Need-returns
 returns c = let a = c .before .before .before .before .before .before .args in taken-first (a .b) (a .k) (c .before .before .before .before .t .given .1) (c .before .ahead .ensures) (c .if1 .taken)

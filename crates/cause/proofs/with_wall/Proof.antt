@@ -1,7 +1,7 @@
 -- `with_wall` gives the first of a cause and a wall.
 use mathlib.Core.Path.{refl}
 use Rattle.cause.specs.Offer.{passed}
-use Rattle.cause.proofs.Answers.{small-zero, at-small, never-quot, wall-at}
+use Rattle.cause.proofs.Answers.{unused-timely, at-timely, never-quot, wall-at}
 use Rattle.cause.proofs.First.{least-first, least-second}
 use borrow.Author.Needs.{needs}
 use Rattle.cause.proofs.with_wall.Statement.{statement}
@@ -13,23 +13,23 @@ wall-of-requires c κs = search needs
 enum-told : tie.Need-enum-told
 enum-told c = search needs
 
-enum-known-u : tie.Need-enum-known-u
-enum-known-u c = search needs
+enum-known-at : tie.Need-enum-known-at
+enum-known-at c = search needs
 
 cast-id : tie.Need-cast-id
 cast-id c = search needs
 
 ahead-requires : tie.Need-ahead-requires
-ahead-requires c κs = (c .before .before .before .before .before .pre .0, record { at = at-small (c .before .before .u .given .1) (c .before .before .before .before .wall-of .ensures .1); there = small-zero })
+ahead-requires c κs = (c .before .before .before .before .before .pre .0, record { at = at-timely (c .before .before .at .given .1) (c .before .before .before .before .wall-of .ensures .1); there = unused-timely })
 
 returns : tie.Need-returns
-returns c = wall-at (c .before .before .before .before .u .given .1) (c .before .before .before .before .before .before .wall-of .ensures) (least-first (c .before .ahead .ensures) (c .if1 .taken))
+returns c = wall-at (c .before .before .before .before .at .given .1) (c .before .before .before .before .before .before .wall-of .ensures) (least-first (c .before .ahead .ensures) (c .if1 .taken))
 
 returns-2 : tie.Need-returns-2
 returns-2 c = passed (never-quot (c .enum-told .given .1) (c .before .before .wall-of .ensures .0)) refl
 
 returns-3 : tie.Need-returns-3
-returns-3 c = wall-at (c .before .before .before .before .u .given .1) (c .before .before .before .before .before .before .wall-of .ensures) (least-second (c .before .ahead .ensures) (c .if1 .left))
+returns-3 c = wall-at (c .before .before .before .before .at .given .1) (c .before .before .before .before .before .before .wall-of .ensures) (least-second (c .before .ahead .ensures) (c .if1 .left))
 
 pub with-wall-spec : {M : Type 1} → statement M
 with-wall-spec =
@@ -37,7 +37,7 @@ with-wall-spec =
     (tie.spec
     wall-of-requires
     enum-told
-    enum-known-u
+    enum-known-at
     cast-id
     ahead-requires
     returns
