@@ -1,16 +1,19 @@
 -- What the code's onsets are of the cuts of crate `cells`: `rise-yes` to `fall-no` for one border, `entry-by`, `exit-by` and `has-by` for a cell.
 use mathlib.Core.Path.{_≡_, refl, sym, ap, ap₂, _∙_, subst}
 use mathlib.Core.Bool.{Bool, true, false, cond}
-use Prim.Native.Nat.{ℕ, zero, suc, pred, _+_, _*_, _-_, _≤_, _<_}
+use Prim.Native.Nat.{ℕ, suc, pred, _+_, _*_, _-_, _≤_, _<_}
 use native.Mathlib.Nat.{mul-le-mul}
 use native.Mathlib.Omega.{arith}
 use lib.Dec.{ltb}
-use lib.IntN.{pos}
-use mir.Syntax.{w64}
-use mir.Val.{Fits}
-use Rattle.fraction.specs.Time.{fraction}
-use Rattle.fraction.proofs.Bounds.{fits-nat}
+use lib.IntN.{ℤ, pos}
+use mir.Syntax.{w8, w64}
+use mir.Val.{Fits, toZ, ofZ}
+use Rattle.fraction.specs.declared.Fraction.{Fraction}
+use Rattle.fraction.specs.Time.{asTime}
+use Rattle.fraction.specs.Sizes.{greatestNum, greatestDen, Timely}
+use Rattle.fraction.proofs.Bounds.{fits-nat, bounded-back}
 use Rattle.sheet.specs.declared.Track.{Track}
+use Rattle.sheet.specs.Accepted.{TrackOk}
 use Rattle.cells.specs.declared.Cell.{Cell}
 use Rattle.cells.specs.Touched.{HasPoint}
 use Rattle.cells.specs.Cut.{Cut, before, later, sooner, past}
@@ -22,23 +25,26 @@ use Rattle.cell_walk.specs.Onsets.{onset, onsetOf, Ready, Gives, priorOf
 
 -- ---- one border
 
-same : {k : Cut} {n d o : ℕ} → Numbers k n d o → onset n d o ≡ onsetOf k
-same e = λ i. record { num = sym (e .its-num) i; den = sym (e .its-den) i; late = sym (e .its-late) i }
+abbrev onsetAt : ℕ → ℕ → ℕ → Onset
+onsetAt n d o = onset (record { num = n; den = d }) o
 
-small : (n d o : ℕ) → n ≤ 536870912 → d ≤ 536870912 → o ≤ 1 → Ready (onset n d o)
+same : {k : Cut} {n d o : ℕ} → Numbers k n d o → onsetAt n d o ≡ onsetOf k
+same e = λ i. onsetAt (sym (e .its-num) i) (sym (e .its-den) i) (sym (e .its-late) i)
+
+small : (n d o : ℕ) → n ≤ greatestNum → d ≤ greatestDen → o ≤ 1 → Ready (onsetAt n d o)
 small n d o h k i = record { num-in = h; den-in = k; late-in = i }
 
-at-start : (k : Cut) → Numbers k 0 1 0 → Gives (onsetOf k) (onset 0 1 0)
+at-start : (k : Cut) → Numbers k 0 1 0 → Gives (onsetOf k) (onsetAt 0 1 0)
 at-start k e = record { is = same e; ready = small 0 1 0 (omega arith) (omega arith) (omega arith) }
 
 module _ (x w b : ℕ) where
-  pub rise-yes : b ≤ x → Gives (onsetOf (border x (pos w) b)) (onset 0 1 0)
+  pub rise-yes : b ≤ x → Gives (onsetOf (border x (pos w) b)) (onsetAt 0 1 0)
   rise-yes h = at-start (border x (pos w) b) (subst (λ (z : Cut). Numbers z 0 1 0) (sym (up-start x w b h)) start-numbers)
 
-  pub rise-no : x < b → b ≤ 21000000 → w ≤ 63 → Gives (onsetOf (border x (pos w) b)) (onset (b - x) w 0)
+  pub rise-no : x < b → b ≤ 21000000 → w ≤ 63 → Gives (onsetOf (border x (pos w) b)) (onsetAt (b - x) w 0)
   rise-no h i j = record { is = same (up-numbers x w b h); ready = small (b - x) w 0 (omega arith) (omega arith) (omega arith) }
 
-  pub fall-yes : b ≤ x → x ≤ 4095 → 0 < w → w ≤ 63 → Gives (onsetOf (border x (fall w) b)) (onset (x - b) w 1)
+  pub fall-yes : b ≤ x → x ≤ 4095 → 0 < w → w ≤ 63 → Gives (onsetOf (border x (fall w) b)) (onsetAt (x - b) w 1)
   fall-yes h i p j =
       let e = down-numbers x (pred w) b h in
       let q : suc (pred w) ≡ w = omega arith in
@@ -47,7 +53,7 @@ module _ (x w b : ℕ) where
         ready = small (x - b) w 1 (omega arith) (omega arith) (omega arith);
       }
 
-  pub fall-no : x < b → Gives (onsetOf (border x (fall w) b)) (onset 0 1 0)
+  pub fall-no : x < b → Gives (onsetOf (border x (fall w) b)) (onsetAt 0 1 0)
   fall-no h = at-start (border x (fall w) b) (subst (λ (z : Cut). Numbers z 0 1 0) (sym (down-start x (pred w) b h)) start-numbers)
 
 pub border-in : (c s : ℕ) → c ≤ 5001 → s ≤ 4096 → c * s ≤ 21000000
@@ -58,7 +64,7 @@ border-fits c s h k = fits-nat w64 c s 5001 4096 h k tt
 
 -- ---- the order, the later and the sooner
 
-pub prior-by : (k l : Onset) {p q : ℕ} → p ≡ k .num * l .den → q ≡ l .num * k .den → ltb (2 * p + k .late) (2 * q + l .late) ≡ priorOf k l
+pub prior-by : (k l : Onset) {p q : ℕ} → p ≡ k .at .num * l .at .den → q ≡ l .at .num * k .at .den → ltb (2 * p + k .late) (2 * q + l .late) ≡ priorOf k l
 unfolding priorOf
 prior-by k l e f = rw (e, f) refl
 
@@ -96,29 +102,37 @@ unfolding sooner soonerOf before priorOf
 is-sooner k l = is-cond (before l k) k l
 
 -- the cut just after a time
-pub past-is : (n d : ℕ) → 0 < d → onset n d 1 ≡ onsetOf (past (fraction n d))
+pub past-is : (t : Fraction) → 0 < t .den → onset t 1 ≡ onsetOf (past (asTime t))
 unfolding past
-past-is n zero p = absurd (omega arith)
-past-is n (suc d) p = refl
+past-is t p = let e : t .den ≡ suc (pred (t .den)) = omega arith in λ i. onsetAt (t .num) (e i) 1
 
 -- ---- a cell
 
 module _ (a : Track) (s : ℕ) (k : Cell) where
-  pub entry-by : {i j : Onset} (r : Onset) → Gives (onsetOf (enter (a .x) (a .vx) s (k .column))) i → Gives (onsetOf (enter (a .y) (a .vy) s (k .row))) j → Gives (laterOf i j) r → Gives (onsetOf (entry a s k)) r
+  -- two columns, by the speeds as the code reads them
+  both : (f : Onset → Onset → Onset) (cut : ℕ → ℤ → ℕ → ℕ → Cut) {i j r : Onset} → TrackOk a →
+      Gives (onsetOf (cut (a .x) (toZ w8 (ofZ w8 (a .vx))) s (k .column))) i → Gives (onsetOf (cut (a .y) (toZ w8 (ofZ w8 (a .vy))) s (k .row))) j → Gives (f i j) r →
+      Gives (f (onsetOf (cut (a .x) (a .vx) s (k .column))) (onsetOf (cut (a .y) (a .vy) s (k .row)))) r
+  both f cut ok g h e =
+      let x = rw (bounded-back w8 (a .vx) (ok .vx-in) tt) at g in
+      let y = rw (bounded-back w8 (a .vy) (ok .vy-in) tt) at h in
+      record { is = e .is ∙ ap₂ f (x .is) (y .is); ready = e .ready }
+
+  pub entry-by : {i j r : Onset} → TrackOk a → Gives (onsetOf (enter (a .x) (toZ w8 (ofZ w8 (a .vx))) s (k .column))) i → Gives (onsetOf (enter (a .y) (toZ w8 (ofZ w8 (a .vy))) s (k .row))) j → Gives (laterOf i j) r → Gives (onsetOf (entry a s k)) r
   unfolding entry
-  entry-by r g h e = record { is = e .is ∙ ap₂ laterOf (g .is) (h .is) ∙ is-later (enter (a .x) (a .vx) s (k .column)) (enter (a .y) (a .vy) s (k .row)); ready = e .ready }
+  entry-by ok g h e = rw (is-later (enter (a .x) (a .vx) s (k .column)) (enter (a .y) (a .vy) s (k .row))) at (both laterOf enter ok g h e)
 
-  pub exit-by : {i j : Onset} (r : Onset) → Gives (onsetOf (leave (a .x) (a .vx) s (k .column))) i → Gives (onsetOf (leave (a .y) (a .vy) s (k .row))) j → Gives (soonerOf i j) r → Gives (onsetOf (exit a s k)) r
+  pub exit-by : {i j r : Onset} → TrackOk a → Gives (onsetOf (leave (a .x) (toZ w8 (ofZ w8 (a .vx))) s (k .column))) i → Gives (onsetOf (leave (a .y) (toZ w8 (ofZ w8 (a .vy))) s (k .row))) j → Gives (soonerOf i j) r → Gives (onsetOf (exit a s k)) r
   unfolding exit
-  exit-by r g h e = record { is = e .is ∙ ap₂ soonerOf (g .is) (h .is) ∙ is-sooner (leave (a .x) (a .vx) s (k .column)) (leave (a .y) (a .vy) s (k .row)); ready = e .ready }
+  exit-by ok g h e = rw (is-sooner (leave (a .x) (a .vx) s (k .column)) (leave (a .y) (a .vy) s (k .row))) at (both soonerOf leave ok g h e)
 
-  has-is : (n d : ℕ) → 0 < d → priorOf (onsetOf (entry a s k)) (soonerOf (onsetOf (exit a s k)) (onset n d 1)) ≡ hasPoint a (fraction n d) s k
+  has-is : (t : Fraction) → 0 < t .den → priorOf (onsetOf (entry a s k)) (soonerOf (onsetOf (exit a s k)) (onset t 1)) ≡ hasPoint a (asTime t) s k
   unfolding hasPoint
-  has-is n d p =
-      ap (λ (z : Onset). priorOf (onsetOf (entry a s k)) z) (ap (λ (z : Onset). soonerOf (onsetOf (exit a s k)) z) (past-is n d p) ∙ is-sooner (exit a s k) (past (fraction n d))) ∙
-      sym (is-before (entry a s k) (sooner (exit a s k) (past (fraction n d))))
+  has-is t p =
+      ap (λ (z : Onset). priorOf (onsetOf (entry a s k)) z) (ap (λ (z : Onset). soonerOf (onsetOf (exit a s k)) z) (past-is t p) ∙ is-sooner (exit a s k) (past (asTime t))) ∙
+      sym (is-before (entry a s k) (sooner (exit a s k) (past (asTime t))))
 
-  pub has-by : (n d : ℕ) → 0 < d → {i j m : Onset} {b : Bool} → Gives (onsetOf (entry a s k)) i → Gives (onsetOf (exit a s k)) j → Gives (soonerOf j (onset n d 1)) m → b ≡ priorOf i m → Answers (HasPoint a (fraction n d) s k) b
-  has-by n d p {b = b} g h e f =
-      let q : b ≡ hasPoint a (fraction n d) s k = f ∙ ap₂ priorOf (g .is) (e .is ∙ ap (λ (z : Onset). soonerOf z (onset n d 1)) (h .is)) ∙ has-is n d p in
-      record { yes = λ t. has-point-true (sym q ∙ t); no = λ t. has-point-false (sym q ∙ t) }
+  pub has-by : (t : Fraction) → Timely t → {i j m : Onset} {b : Bool} → Gives (onsetOf (entry a s k)) i → Gives (onsetOf (exit a s k)) j → Gives (soonerOf j (onset t 1)) m → b ≡ priorOf i m → Answers (HasPoint a (asTime t) s k) b
+  has-by t p {b = b} g h e f =
+      let q : b ≡ hasPoint a (asTime t) s k = f ∙ ap₂ priorOf (g .is) (e .is ∙ ap (λ (z : Onset). soonerOf z (onset t 1)) (h .is)) ∙ has-is t (p .den-pos) in
+      record { yes = λ u. has-point-true (sym q ∙ u); no = λ u. has-point-false (sym q ∙ u) }

@@ -1,9 +1,11 @@
--- The cuts of crate `cells` as the code holds them: three numbers. What they say of cells is in that crate; `onsetOf` ties them.
+-- The cuts of crate `cells` as the code holds them: a fraction and a bit. What they say of cells is in that crate; `onsetOf` ties them.
 use mathlib.Core.Path.{_≡_}
 use mathlib.Core.Bool.{Bool, true, false, cond}
 use Prim.Native.Nat.{ℕ, pred, _+_, _*_, _≤_, _<_}
 use lib.Dec.{ltb}
 use lib.IntN.{ℤ, pos, negsuc}
+use Rattle.fraction.specs.declared.Fraction.{Fraction}
+use Rattle.fraction.specs.Sizes.{greatestNum, greatestDen}
 use Rattle.sheet.specs.declared.Track.{Track}
 use Rattle.cells.specs.declared.Cell.{Cell}
 use Rattle.cells.specs.Cut.{Cut}
@@ -14,16 +16,16 @@ use Rattle.cell_walk.specs.declared.Heading.{Heading}
 use Rattle.cell_walk.specs.declared.Heading.the-variants.{Up, Down}
 use Rattle.cell_walk.specs.declared.Crossing.{Crossing}
 
-abbrev pub onset : ℕ → ℕ → ℕ → Onset
-onset n d o = record { num = n; den = d; late = o }
+abbrev pub onset : Fraction → ℕ → Onset
+onset t o = record { at = t; late = o }
 
 abbrev pub onsetOf : Cut → Onset
-onsetOf k = onset (k .num) (k .den) (k .late)
+onsetOf k = onset (record { num = k .num; den = k .den }) (k .late)
 
--- small enough to be compared
+-- small enough to be compared. The denominator may be 0: such an onset is never
 pub record Ready (k : Onset) : Type 0 where
-  pub num-in : k .num ≤ 536870912
-  pub den-in : k .den ≤ 536870912
+  pub num-in : k .at .num ≤ greatestNum
+  pub den-in : k .at .den ≤ greatestDen
   pub late-in : k .late ≤ 1
 
 pub record Gives (k r : Onset) : Type 0 where
@@ -32,7 +34,7 @@ pub record Gives (k r : Onset) : Type 0 where
 
 -- the order of onsets, the later and the sooner of two
 unfoldable pub priorOf : Onset → Onset → Bool
-priorOf k l = ltb (2 * (k .num * l .den) + k .late) (2 * (l .num * k .den) + l .late)
+priorOf k l = ltb (2 * (k .at .num * l .at .den) + k .late) (2 * (l .at .num * k .at .den) + l .late)
 
 unfoldable pub laterOf : Onset → Onset → Onset
 laterOf k l = cond (priorOf k l) l k

@@ -2,20 +2,21 @@
 ghost use mathlib.Core.Path.{_≡_};
 ghost use Prim.Native.Nat.{_≤_, _<_, _*_};
 ghost use lib.IntN.{pos, natAbs};
-ghost use Rattle.fraction.specs.Time.{fraction};
+ghost use Rattle.fraction.specs.Time.{asTime};
+ghost use Rattle.fraction.specs.Sizes.{greatestNum, greatestDen, Timely};
 ghost use Rattle.sheet.specs.Accepted.{TrackOk};
 ghost use Rattle.cells.specs.Touched.{HasPoint};
 ghost use Rattle.cells.specs.OneCell.{border, enter, leave, entry, exit};
 ghost use Rattle.cells.specs.Walk.{step, first};
 ghost use Rattle.cell_walk.specs.Onsets.{Ready, Gives, Crosses, Headed, Near, Answers, priorOf, laterOf, soonerOf, turnOf, onsetOf, fall, crossOf};
 use cells::Cell;
+use fraction::Fraction;
 use fraction::Sign;
 use sheet::Track;
 
-// The time num / den, at which a part of time begins: with that time itself (late is 0), or just after it (late is 1). 1 / 0 is never.
+// The time at which a part of time begins: with that time itself (late is 0), or just after it (late is 1). 1 / 0 is never.
 pub struct Onset {
-    pub num: u64,
-    pub den: u64,
+    pub at: Fraction,
     pub late: u64,
 }
 
@@ -43,8 +44,8 @@ fn heading_of(v: i8) -> Heading
 }
 
 fn product(a: u64, b: u64) -> u64
-    requires { ⌜ (a ≤ 536870912) × (b ≤ 536870912) ⌝ }
-    ensures { λ r. ⌜ (r ≡ a * b) × (r ≤ 288230376151711744) ⌝ }
+    requires { ⌜ (a ≤ greatestNum) × (b ≤ greatestDen) ⌝ }
+    ensures { λ r. ⌜ (r ≡ a * b) × (r ≤ greatestNum * greatestDen) ⌝ }
 {
     a * b
 }
@@ -54,7 +55,7 @@ pub fn prior(k: Onset, l: Onset) -> bool
     requires { ⌜ Ready k × Ready l ⌝ }
     ensures { λ r. ⌜ r ≡ priorOf k l ⌝ }
 {
-    2 * product(k.num, l.den) + k.late < 2 * product(l.num, k.den) + l.late
+    2 * product(k.at.num, l.at.den) + k.late < 2 * product(l.at.num, k.at.den) + l.late
 }
 
 fn later(k: Onset, l: Onset) -> Onset
@@ -78,14 +79,12 @@ fn rising(x: u64, w: u64, b: u64) -> Onset
 {
     if b <= x {
         return Onset {
-            num: 0,
-            den: 1,
+            at: Fraction { num: 0, den: 1 },
             late: 0,
         };
     }
     Onset {
-        num: b - x,
-        den: w,
+        at: Fraction { num: b - x, den: w },
         late: 0,
     }
 }
@@ -97,14 +96,12 @@ fn falling(x: u64, w: u64, b: u64) -> Onset
 {
     if b <= x {
         return Onset {
-            num: x - b,
-            den: w,
+            at: Fraction { num: x - b, den: w },
             late: 1,
         };
     }
     Onset {
-        num: 0,
-        den: 1,
+        at: Fraction { num: 0, den: 1 },
         late: 0,
     }
 }
@@ -152,13 +149,13 @@ pub fn cell_exit(a: Track, s: u64, k: Cell) -> Onset
     )
 }
 
-// The trace up to num / den has a point in the cell: it is entered before it is left and before the trace's end.
-pub fn has_point(a: Track, num: u64, den: u64, s: u64, k: Cell) -> bool
-    requires { ⌜ TrackOk a × (num ≤ 536870912) × (den ≤ 536870912) × (0 < den) × (s ≤ 4096) × Near k ⌝ }
-    ensures { λ r. ⌜ Answers (HasPoint a (fraction num den) s k) r ⌝ }
+// The trace up to `end` has a point in the cell: it is entered before it is left and before the trace's end.
+pub fn has_point(a: Track, end: Fraction, s: u64, k: Cell) -> bool
+    requires { ⌜ TrackOk a × Timely end × (s ≤ 4096) × Near k ⌝ }
+    ensures { λ r. ⌜ Answers (HasPoint a (asTime end) s k) r ⌝ }
 {
-    let end = Onset { num, den, late: 1 };
-    prior(cell_entry(a, s, k), sooner(cell_exit(a, s, k), end))
+    let past = Onset { at: end, late: 1 };
+    prior(cell_entry(a, s, k), sooner(cell_exit(a, s, k), past))
 }
 
 fn onward(v: i8, col: u64) -> u64

@@ -19,7 +19,7 @@ prior-requires c κs = search needs
 returns : tie.Need-returns
 returns c =
     let o = c .before .before .before .before in
-    has-by (o .args .a) (o .args .s) (o .args .k) (o .args .num) (o .args .den) (o .pre .3) (c .before .before .before .cell-entry .ensures) (c .before .before .cell-exit .ensures) (c .before .sooner .ensures) (c .prior .ensures)
+    has-by (o .args .a) (o .args .s) (o .args .k) (o .args .end) (o .pre .1) (c .before .before .before .cell-entry .ensures) (c .before .before .cell-exit .ensures) (c .before .sooner .ensures) (c .prior .ensures)
 
 pub has-point-spec : {M : Type 1} → statement M
 has-point-spec =

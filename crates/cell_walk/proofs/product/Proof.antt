@@ -1,5 +1,4 @@
 -- `product` meets its contract.
-use mir.Syntax.{w64}
 use native.Mathlib.Nat.{mul-le-mul}
 use native.Mathlib.Omega.{arith}
 use Rattle.fraction.proofs.Bounds.{fits-nat}
@@ -8,7 +7,7 @@ use Rattle.cell_walk.proofs.product.Statement.{statement}
 use Rattle.cell_walk.proofs.product.Tie as tie
 
 mul-result : tie.Need-mul-result
-mul-result c = fits-nat w64 (c .args .a) (c .args .b) 536870912 536870912 (c .pre .0) (c .pre .1) tt
+mul-result c = search (fits-nat, needs)
 
 returns : tie.Need-returns
 returns c = (search needs, omega (arith, mul-le-mul (c .pre .0) (c .pre .1)))
