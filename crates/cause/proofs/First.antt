@@ -2,11 +2,10 @@
 use mathlib.Core.Bool.{Bool, true, false, true≢false}
 use mathlib.Core.Logic.{inl, inr}
 use mathlib.Core.Path.{_≡_, refl, sym, subst}
-use Prim.Native.Nat.{ℕ, _*_}
+use Prim.Native.Nat.{ℕ}
 use native.Mathlib.Omega.{arith}
-use lib.Dec.{leb}
 use Rattle.fraction.specs.declared.Fraction.{Fraction}
-use Rattle.fraction.specs.Time.{_≤ᵗ_, _<ᵗ_, asTime}
+use Rattle.fraction.specs.Time.{_≤ᵗ_, _<ᵗ_, asTime, notLater}
 use Rattle.fraction.proofs.TimeOrder.{≈ᵗ-refl, told-not-later, told-later}
 use Rattle.sheet.specs.Listing.{Listing}
 use Rattle.sheet.specs.declared.Track.{Track}
@@ -20,10 +19,10 @@ use Rattle.cause.specs.Cause.{candOf, Stands, Comes, in-time, in-class, 
 use Rattle.cause.specs.Offer.{tipCause, Taken}
 
 module _ {a b : Fraction} (p : Timely a) (q : Timely b) where
-  pub not-later : leb (a .num * b .den) (b .num * a .den) ≡ true → asTime a ≤ᵗ asTime b
+  pub not-later : notLater a b ≡ true → asTime a ≤ᵗ asTime b
   not-later h = told-not-later a b (p .den-pos) (q .den-pos) h
 
-  pub later : leb (a .num * b .den) (b .num * a .den) ≡ false → asTime b <ᵗ asTime a
+  pub later : notLater a b ≡ false → asTime b <ᵗ asTime a
   later h = told-later a b (p .den-pos) (q .den-pos) h
 
 pub ≼-self : (c : Cand) → c ≼ c

@@ -5,10 +5,9 @@ use mathlib.Core.Bool.{true, false}
 use Prim.Native.Nat.{ℕ, suc, pred, _*_, _≤_, _<_}
 use native.Mathlib.Omega.{arith}
 use native.Mathlib.Nat.{mul-le-mul-right, le-of-mul-le-mul-left, mul-lt-mul-of-pos-right, lt-of-mul-lt-mul-left}
-use lib.Dec.{leb}
 use borrow.Author.Tests.{leb-true, leb-false}
 use Rattle.fraction.specs.declared.Fraction.{Fraction}
-use Rattle.fraction.specs.Time.{Time, _≤ᵗ_, _<ᵗ_, _≈ᵗ_, fraction, asTime, zeroᵗ}
+use Rattle.fraction.specs.Time.{Time, _≤ᵗ_, _<ᵗ_, _≈ᵗ_, fraction, asTime, notLater, zeroᵗ}
 use Rattle.fraction.specs.Order.{≤ᵗ-or-<ᵗ, ≈ᵗ-of}
 
 pub ≤ᵗ-refl : (a : Time) → a ≤ᵗ a
@@ -86,10 +85,10 @@ module _ (n d m e : ℕ) (p : 0 < d) (q : 0 < e) where
 
 -- what the code's comparison says
 module _ (a b : Fraction) (p : 0 < a .den) (q : 0 < b .den) where
-  pub told-not-later : leb (a .num * b .den) (b .num * a .den) ≡ true → asTime a ≤ᵗ asTime b
+  pub told-not-later : notLater a b ≡ true → asTime a ≤ᵗ asTime b
   told-not-later h = fraction-le (a .num) (a .den) (b .num) (b .den) p q (leb-true (a .num * b .den) (b .num * a .den) h)
 
-  pub told-later : leb (a .num * b .den) (b .num * a .den) ≡ false → asTime b <ᵗ asTime a
+  pub told-later : notLater a b ≡ false → asTime b <ᵗ asTime a
   told-later h = fraction-lt (b .num) (b .den) (a .num) (a .den) q p (leb-false (a .num * b .den) (b .num * a .den) h)
 
 pub at-most : {a b : Time} → ¬ (b <ᵗ a) → a ≤ᵗ b

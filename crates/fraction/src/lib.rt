@@ -1,9 +1,9 @@
 // Exact arithmetic on fractions and signed numbers: the code. The laws for contracts and proofs are in proofs/.
 ghost use mathlib.Core.Path.{_≡_};
-ghost use Prim.Native.Nat.{_*_, _<_};
-ghost use lib.Dec.{leb};
+ghost use Prim.Native.Nat.{_<_};
 ghost use Rattle.fraction.specs.Lowest.{Greatest, Reduced, lowestOf};
 ghost use Rattle.fraction.specs.Sizes.{Timely};
+ghost use Rattle.fraction.specs.Time.{notLater};
 ghost use Rattle.fraction.specs.Sign.{signOf};
 
 // The time num / den.
@@ -49,7 +49,7 @@ pub fn reduce(t: Fraction) -> Fraction
 // a is no later than b.
 pub fn not_later(a: Fraction, b: Fraction) -> bool
     requires { ⌜ Timely a × Timely b ⌝ }
-    ensures { λ r. ⌜ r ≡ leb (a .num * b .den) (b .num * a .den) ⌝ }
+    ensures { λ r. ⌜ r ≡ notLater a b ⌝ }
 {
     a.num * b.den <= b.num * a.den
 }

@@ -1,15 +1,14 @@
 -- Causes that still count. Main theorems: `stale-means` (what the test says), `counts-live`, `live-counts`.
-use mathlib.Core.Bool.{Bool, true, false, true≢false}
+use mathlib.Core.Bool.{Bool, true, false, not, true≢false}
 use mathlib.Core.List.{List}
 use mathlib.Core.Path.{_≡_, refl, sym, _∙_, subst}
-use Prim.Native.Nat.{ℕ, zero, suc, _*_, _<_}
+use Prim.Native.Nat.{ℕ, zero, suc, _<_}
 use native.Mathlib.Decide.{ℕ-discrete}
 use native.Mathlib.Omega.{arith}
 use borrow.Author.Tests.{eq-eqb, ne-eqb}
-use lib.Dec.{ltb}
 use lib.ListN.{length}
-use Rattle.fraction.specs.Time.{Time, _≤ᵗ_, _<ᵗ_, fraction}
-use Rattle.fraction.proofs.TimeOrder.{≈ᵗ-sym, ≈ᵗ→≤ᵗ, ≤ᵗ-trans, <ᵗ-≤ᵗ-trans, <ᵗ-irrefl, fraction-before, fraction-not-before}
+use Rattle.fraction.specs.Time.{Time, _≤ᵗ_, _<ᵗ_, asTime, notLater}
+use Rattle.fraction.proofs.TimeOrder.{≈ᵗ-sym, ≈ᵗ→≤ᵗ, ≤ᵗ-trans, <ᵗ-≤ᵗ-trans, <ᵗ-irrefl, told-not-later, told-later}
 use Rattle.sheet.specs.Accepted.{Accepted}
 use Rattle.sheet.specs.Listing.{Listing, _∈_}
 use Rattle.sheet.specs.declared.Track.{Track}
@@ -26,7 +25,7 @@ use Rattle.look.specs.Ends.{endOf, Ends}
 use Rattle.look.specs.Counts.{Counts, no-track, runs, passed, MayTell, void, stale, Stale}
 
 -- a track that had ended before it was there
-pub void-none : {ts : List Tip} {c : Cause} → c .class ≡ 0 → (tipIn ts (c .who) .ended ≡ 0 → ⊥) → endOf (tipIn ts (c .who)) <ᵗ fraction (c .s) (c .sd) → Counts ts c → ⊥
+pub void-none : {ts : List Tip} {c : Cause} → c .class ≡ 0 → (tipIn ts (c .who) .ended ≡ 0 → ⊥) → endOf (tipIn ts (c .who)) <ᵗ asTime (c .there) → Counts ts c → ⊥
 void-none z n h (no-track x) = x z
 void-none z n h (runs _ x) = n x
 void-none z n h (passed _ _ x) = <ᵗ-irrefl (<ᵗ-≤ᵗ-trans h x)
@@ -46,7 +45,7 @@ module _ (ts : List Tip) (c : Cause) where
     unfolding void
     void-runs x = rw (eq-eqb (c .class) 0 z, eq-eqb (other .ended) 0 x) refl
 
-    pub void-ended : (other .ended ≡ 0 → ⊥) → void ts c ≡ ltb (other .best .u * c .sd) (c .s * other .best .ud)
+    pub void-ended : (other .ended ≡ 0 → ⊥) → void ts c ≡ not (notLater (c .there) (other .best .at))
     unfolding void
     void-ended x = rw (eq-eqb (c .class) 0 z, ne-eqb (other .ended) 0 x) refl
 
@@ -69,14 +68,19 @@ record Void (ts : List Tip) (c : Cause) (r : Bool) : Type 0 where
 counting : {ts : List Tip} {c : Cause} → Counts ts c → Void ts c false
 counting x = record { no-longer = λ e. absurd (true≢false (sym e)); still = λ e. x }
 
+told : {ts : List Tip} {c : Cause} (b : Bool) → (b ≡ true → Counts ts c) → (b ≡ false → Counts ts c → ⊥) → Void ts c (not b)
+told true h k = counting (h refl)
+told false h k = record { no-longer = λ e. k refl; still = λ e. absurd (true≢false e) }
+
 void-means : (ts : List Tip) (c : Cause) → Fine c → (c .class ≡ 0 → (tipIn ts (c .who) .ended ≡ 0 → ⊥) → Fine (tipIn ts (c .who) .best)) → Void ts c (void ts c)
 void-means ts c f g = go (ℕ-discrete (c .class) 0) (ℕ-discrete (tipIn ts (c .who) .ended) 0)
   where
-    late : c .class ≡ 0 → (tipIn ts (c .who) .ended ≡ 0 → ⊥) → Void ts c (ltb (tipIn ts (c .who) .best .u * c .sd) (c .s * tipIn ts (c .who) .best .ud))
+    late : c .class ≡ 0 → (tipIn ts (c .who) .ended ≡ 0 → ⊥) → Void ts c (not (notLater (c .there) (tipIn ts (c .who) .best .at)))
     late z x =
-        let before = fraction-before (tipIn ts (c .who) .best .u) (tipIn ts (c .who) .best .ud) (c .s) (c .sd) (g z x .at .den-pos) (f .there .den-pos) in
-        let after = fraction-not-before (tipIn ts (c .who) .best .u) (tipIn ts (c .who) .best .ud) (c .s) (c .sd) (g z x .at .den-pos) (f .there .den-pos) in
-        record { no-longer = λ e. void-none z x (before e); still = λ e. passed z x (after e) }
+        let end = tipIn ts (c .who) .best .at in
+        told (notLater (c .there) end)
+        (λ e. passed z x (told-not-later (c .there) end (f .there .den-pos) (g z x .at .den-pos) e))
+        (λ e. void-none z x (told-later (c .there) end (f .there .den-pos) (g z x .at .den-pos) e))
 
     go : Dec (c .class ≡ 0) → Dec (tipIn ts (c .who) .ended ≡ 0) → Void ts c (void ts c)
     go (no n) d = subst (Void ts c) (sym (void-class ts c n)) (counting (no-track n))
@@ -112,9 +116,9 @@ module _ (S : Listing) (acc : Accepted S) (ts : List Tip) (done : List Row) (e :
   by-stop u s (suc k) w z h n l = absurd (omega arith)
 
   pub counts-live : {c : Cause} → Stands S a c → Counts ts c → Live done (candOf S c .u) (candOf S c .why)
-  counts-live {c} t (no-track n) = walls-live S done (fraction (c .u) (c .ud)) (fraction (c .s) (c .sd)) (c .class) (c .who) (omega (arith, n))
-  counts-live {c} t (runs z x) = by-run (fraction (c .u) (c .ud)) (fraction (c .s) (c .sd)) (c .class) (c .who) z (t .known z) (t .formal) x
-  counts-live {c} t (passed z n y) = by-end (fraction (c .u) (c .ud)) (fraction (c .s) (c .sd)) (c .class) (c .who) z (t .known z) n y
+  counts-live {c} t (no-track n) = walls-live S done (asTime (c .at)) (asTime (c .there)) (c .class) (c .who) (omega (arith, n))
+  counts-live {c} t (runs z x) = by-run (asTime (c .at)) (asTime (c .there)) (c .class) (c .who) z (t .known z) (t .formal) x
+  counts-live {c} t (passed z n y) = by-end (asTime (c .at)) (asTime (c .there)) (c .class) (c .who) z (t .known z) n y
 
   -- a cause that counts in the rule counts in the tips
   pub live-counts : {c : Cause} → Stands S a c → Live done (candOf S c .u) (candOf S c .why) → Counts ts c
@@ -122,7 +126,7 @@ module _ (S : Listing) (acc : Accepted S) (ts : List Tip) (done : List Row) (e :
     where
       ran : c .class ≡ 0 → Dec (tipIn ts (c .who) .ended ≡ 0) → Counts ts c
       ran z (yes x) = runs z x
-      ran z (no x) = passed z x (by-stop (fraction (c .u) (c .ud)) (fraction (c .s) (c .sd)) (c .class) (c .who) z (t .known z) x l)
+      ran z (no x) = passed z x (by-stop (asTime (c .at)) (asTime (c .there)) (c .class) (c .who) z (t .known z) x l)
 
       go : Dec (c .class ≡ 0) → Counts ts c
       go (yes z) = ran z (ℕ-discrete (tipIn ts (c .who) .ended) 0)

@@ -1,11 +1,11 @@
--- The answers of `stale`, from what it reads: the tip's flag n and its cause c, then the flag m and the cause `end` of the track that c is.
-use mathlib.Core.Bool.{Bool, true, false}
+-- The answers of `stale`, from what it reads: the tip's flag n and its cause c, then the flag m and the end of the track that c is.
+use mathlib.Core.Bool.{Bool, true, false, not}
 use mathlib.Core.List.{List}
 use mathlib.Core.Path.{_≡_, sym, ap, _∙_, subst}
-use Prim.Native.Nat.{ℕ, _*_, _<_}
-use borrow.Author.Tests.{leb-true, leb-false, lt-ltb, le-ltb}
-use lib.Dec.{leb, ltb}
-use Rattle.fraction.specs.Small.{Small}
+use Prim.Native.Nat.{ℕ, _<_}
+use Rattle.fraction.specs.declared.Fraction.{Fraction}
+use Rattle.fraction.specs.Sizes.{Timely}
+use Rattle.fraction.specs.Time.{notLater}
 use Rattle.cause.specs.declared.Cause.{Cause}
 use Rattle.tips.specs.Tips.{Tip, tipIn}
 use Rattle.look.specs.Counts.{MayTell, void, stale}
@@ -26,15 +26,15 @@ module _ (ts : List Tip) (i : ℕ) {n : ℕ} (e : n ≡ tipIn ts i .ended) where
       pub told-runs : m ≡ 0 → false ≡ stale ts i
       told-runs y = sym (as-void ∙ void-runs ts c z (sym k ∙ y))
 
-      module _ (y : m ≡ 0 → ⊥) (end : Cause) (g : end ≡ tipIn ts (c .who) .best) {b : Bool} (t : b ≡ leb (c .s * end .ud) (end .u * c .sd)) where
-        as-test : stale ts i ≡ ltb (end .u * c .sd) (c .s * end .ud)
-        as-test = as-void ∙ void-ended ts c z (λ w. y (k ∙ w)) ∙ ap (λ (d : Cause). ltb (d .u * c .sd) (c .s * d .ud)) (sym g)
+      module _ (y : m ≡ 0 → ⊥) (end : Fraction) (g : end ≡ tipIn ts (c .who) .best .at) {b : Bool} (t : b ≡ notLater (c .there) end) where
+        as-test : stale ts i ≡ not b
+        as-test = as-void ∙ void-ended ts c z (λ w. y (k ∙ w)) ∙ ap (λ (d : Fraction). not (notLater (c .there) d)) (sym g) ∙ ap not (sym t)
 
         pub told-passed : b ≡ true → false ≡ stale ts i
-        told-passed h = sym (as-test ∙ le-ltb (end .u * c .sd) (c .s * end .ud) (leb-true (c .s * end .ud) (end .u * c .sd) (sym t ∙ h)))
+        told-passed h = sym (as-test ∙ ap not h)
 
         pub told-void : b ≡ false → true ≡ stale ts i
-        told-void h = sym (as-test ∙ lt-ltb (end .u * c .sd) (c .s * end .ud) (leb-false (c .s * end .ud) (end .u * c .sd) (sym t ∙ h)))
+        told-void h = sym (as-test ∙ ap not h)
 
 -- ---- what it may read
 
@@ -42,10 +42,10 @@ module _ {ts : List Tip} {i : ℕ} (may : MayTell ts i) (c : Cause) (f : c ≡ t
   pub who-in : c .class ≡ 0 → c .who < 256
   who-in = subst (λ (d : Cause). d .class ≡ 0 → d .who < 256) (sym f) (may .known)
 
-  pub own-small : Small (c .s) (c .sd)
-  own-small = subst (λ (d : Cause). Small (d .s) (d .sd)) (sym f) (may .fine .there)
+  pub own-timely : Timely (c .there)
+  own-timely = subst (λ (d : Cause). Timely (d .there)) (sym f) (may .fine .there)
 
-  pub end-small : c .class ≡ 0 → {m : ℕ} → m ≡ tipIn ts (c .who) .ended → (m ≡ 0 → ⊥) → (end : Cause) → end ≡ tipIn ts (c .who) .best → Small (end .u) (end .ud)
-  end-small z k y end g =
-      subst (λ (d : Cause). Small (d .u) (d .ud)) (sym g)
-      (subst (λ (d : Cause). d .class ≡ 0 → (tipIn ts (d .who) .ended ≡ 0 → ⊥) → Small (tipIn ts (d .who) .best .u) (tipIn ts (d .who) .best .ud)) (sym f) (λ w v. may .times w v .at) z (λ w. y (k ∙ w)))
+  pub end-timely : c .class ≡ 0 → {m : ℕ} → m ≡ tipIn ts (c .who) .ended → (m ≡ 0 → ⊥) → (end : Fraction) → end ≡ tipIn ts (c .who) .best .at → Timely end
+  end-timely z k y end g =
+      subst Timely (sym g)
+      (subst (λ (d : Cause). d .class ≡ 0 → (tipIn ts (d .who) .ended ≡ 0 → ⊥) → Timely (tipIn ts (d .who) .best .at)) (sym f) (λ w v. may .times w v .at) z (λ w. y (k ∙ w)))

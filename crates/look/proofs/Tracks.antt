@@ -6,7 +6,8 @@ use Prim.Native.Nat.{ℕ, _+_, _<_}
 use native.Mathlib.Decide.{ℕ-discrete}
 use native.Mathlib.Omega.{arith}
 use lib.ListN.{length, getD}
-use Rattle.fraction.specs.Small.{Small}
+use Rattle.fraction.specs.declared.Fraction.{Fraction}
+use Rattle.fraction.specs.Sizes.{Timely}
 use Rattle.sheet.specs.Accepted.{Accepted, TrackOk}
 use Rattle.sheet.specs.HandedIn.{noTrack}
 use Rattle.sheet.specs.Listing.{Listing}
@@ -30,15 +31,15 @@ pub record TracksUpTo (S : Listing) (i : ℕ) (ts : List Tip) (known : List ℕ)
 
 -- the tip at i looks at the tip at k
 abbrev Offers : Listing → ℕ → ℕ → List Tip → Cause → Cause → Type 0
-Offers S i k ts d r = TipOffered (tipAt S i) (tipAt S k) k (tipIn ts k .ended) (tipIn ts k .best .u) (tipIn ts k .best .ud) d r
+Offers S i k ts d r = TipOffered (tipAt S i) (tipAt S k) k (tipIn ts k .ended) (tipIn ts k .best .at) d r
 
 pub track-ok : (S : Listing) → Accepted S → (i : ℕ) → i < length (S .tracks) → {a : Track} → a ≡ tipAt S i → TrackOk a
 track-ok S acc i h e = subst TrackOk (sym e) (acc .tracks-ok (tipAt S i) (mem-at noTrack (S .tracks) i h))
 
 -- the time of a tip that has ended, as it was read
-pub end-small : {S : Listing} {ts : List Tip} {i : ℕ} {c : Cause} → MayLookOn S ts i c → (k : ℕ) → k < length (S .tracks) → {n : ℕ} (end : Cause) → n ≡ tipIn ts k .ended → end ≡ tipIn ts k .best
-    → (n ≡ 0 → ⊥) → Small (end .u) (end .ud)
-end-small {ts = ts} m k h end e f x = subst (λ (z : Cause). Small (z .u) (z .ud)) (sym f) (m .times k h (λ y. x (subst (λ (z : ℕ). z ≡ 0) (sym e) y)))
+pub end-timely : {S : Listing} {ts : List Tip} {i : ℕ} {c : Cause} → MayLookOn S ts i c → (k : ℕ) → k < length (S .tracks) → {n : ℕ} (end : Fraction) → n ≡ tipIn ts k .ended → end ≡ tipIn ts k .best .at
+    → (n ≡ 0 → ⊥) → Timely end
+end-timely {ts = ts} m k h end e f x = subst Timely (sym f) (m .times k h (λ y. x (subst (λ (z : ℕ). z ≡ 0) (sym e) y)))
 
 module _ (S : Listing) (acc : Accepted S) (i : ℕ) (in-i : i < length (S .tracks)) (ts : List Tip) (known : List ℕ) where
   pub tracks-start : {c : Cause} → Stands S (tipAt S i) c → TracksUpTo S i ts known 0 c c
@@ -46,14 +47,14 @@ module _ (S : Listing) (acc : Accepted S) (i : ℕ) (in-i : i < length (S .track
 
   module _ (k : ℕ) (in-k : k < length (S .tracks)) where
     -- from what was read
-    pub offers : (a b : Track) (n : ℕ) (end d r : Cause) (t : Touch) → a ≡ tipAt S i → b ≡ tipAt S k → n ≡ tipIn ts k .ended → end ≡ tipIn ts k .best
-        → Reached a b n (end .u) (end .ud) t → Taken b k t d r → Offers S i k ts d r
+    pub offers : (a b : Track) (n : ℕ) (end : Fraction) (d r : Cause) (t : Touch) → a ≡ tipAt S i → b ≡ tipAt S k → n ≡ tipIn ts k .ended → end ≡ tipIn ts k .best .at
+        → Reached a b n end t → Taken b k t d r → Offers S i k ts d r
     offers a b n end d r t p q m e x y =
-        let o : TipOffered a b k n (end .u) (end .ud) d r = record { touch = t; reached = x; taken = y } in
-        let o₁ : TipOffered (tipAt S i) b k n (end .u) (end .ud) d r = subst (λ (z : Track). TipOffered z b k n (end .u) (end .ud) d r) p o in
-        let o₂ : TipOffered (tipAt S i) (tipAt S k) k n (end .u) (end .ud) d r = subst (λ (z : Track). TipOffered (tipAt S i) z k n (end .u) (end .ud) d r) q o₁ in
-        let o₃ : TipOffered (tipAt S i) (tipAt S k) k (tipIn ts k .ended) (end .u) (end .ud) d r = subst (λ (z : ℕ). TipOffered (tipAt S i) (tipAt S k) k z (end .u) (end .ud) d r) m o₂ in
-        subst (λ (z : Cause). TipOffered (tipAt S i) (tipAt S k) k (tipIn ts k .ended) (z .u) (z .ud) d r) e o₃
+        let o : TipOffered a b k n end d r = record { touch = t; reached = x; taken = y } in
+        let o₁ : TipOffered (tipAt S i) b k n end d r = subst (λ (z : Track). TipOffered z b k n end d r) p o in
+        let o₂ : TipOffered (tipAt S i) (tipAt S k) k n end d r = subst (λ (z : Track). TipOffered (tipAt S i) z k n end d r) q o₁ in
+        let o₃ : TipOffered (tipAt S i) (tipAt S k) k (tipIn ts k .ended) end d r = subst (λ (z : ℕ). TipOffered (tipAt S i) (tipAt S k) k z end d r) m o₂ in
+        subst (λ (z : Fraction). TipOffered (tipAt S i) (tipAt S k) k (tipIn ts k .ended) z d r) e o₃
 
     pub track-turn : {c d r : Cause} → Offers S i k ts d r → TracksUpTo S i ts known k c d → TracksUpTo S i ts known (k + 1) c r
     track-turn {c} {d} {r} o u =
@@ -61,7 +62,7 @@ module _ (S : Listing) (acc : Accepted S) (i : ℕ) (in-i : i < length (S .track
           fine = tip-fine (u .fine) o;
           looked = λ done ends.
               let f = u .looked done ends in
-              fewer more (then f (tip-looked S acc (tipAt S i) (mem-at noTrack (S .tracks) i in-i) k in-k (tipIn ts k .ended) (tipIn ts k .best .u) (tipIn ts k .best .ud) done
+              fewer more (then f (tip-looked S acc (tipAt S i) (mem-at noTrack (S .tracks) i in-i) k in-k (tipIn ts k .ended) (tipIn ts k .best .at) done
               (ends .running k in-k) (ends .ended k in-k) (f .stands) o));
         }
       where

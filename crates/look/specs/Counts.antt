@@ -1,11 +1,10 @@
 -- A cause that still counts: its tip had not ended before it was there (SHEETS 4.5).
 use mathlib.Core.Path.{_≡_}
-use mathlib.Core.Bool.{Bool, true, false, cond}
+use mathlib.Core.Bool.{Bool, true, false, not, cond}
 use mathlib.Core.List.{List}
-use Prim.Native.Nat.{ℕ, _*_, _<_}
-use lib.Dec.{eqb, ltb}
-use Rattle.fraction.specs.Time.{_≤ᵗ_, fraction}
-use Rattle.fraction.specs.Small.{Small}
+use Prim.Native.Nat.{ℕ, _<_}
+use lib.Dec.{eqb}
+use Rattle.fraction.specs.Time.{_≤ᵗ_, asTime, notLater}
 use Rattle.cause.specs.declared.Cause.{Cause}
 use Rattle.cause.specs.Cause.{Fine}
 use Rattle.tips.specs.Tips.{Tip, tipIn}
@@ -15,7 +14,7 @@ use Rattle.look.specs.Ends.{endOf}
 pub data Counts (ts : List Tip) (c : Cause) : Type 0 where
   no-track : (c .class ≡ 0 → ⊥) → Counts ts c
   runs : c .class ≡ 0 → tipIn ts (c .who) .ended ≡ 0 → Counts ts c
-  passed : c .class ≡ 0 → (tipIn ts (c .who) .ended ≡ 0 → ⊥) → fraction (c .s) (c .sd) ≤ᵗ endOf (tipIn ts (c .who)) → Counts ts c
+  passed : c .class ≡ 0 → (tipIn ts (c .who) .ended ≡ 0 → ⊥) → asTime (c .there) ≤ᵗ endOf (tipIn ts (c .who)) → Counts ts c
 
 -- what is read to tell whether the cause of the tip at i counts
 pub record MayTell (ts : List Tip) (i : ℕ) : Type 0 where
@@ -26,7 +25,7 @@ pub record MayTell (ts : List Tip) (i : ℕ) : Type 0 where
 
 -- the same as a test: c is a track whose tip ended before it was there
 unfoldable pub void : List Tip → Cause → Bool
-void ts c = cond (eqb (c .class) 0) (cond (eqb (tipIn ts (c .who) .ended) 0) false (ltb (tipIn ts (c .who) .best .u * c .sd) (c .s * tipIn ts (c .who) .best .ud))) false
+void ts c = cond (eqb (c .class) 0) (cond (eqb (tipIn ts (c .who) .ended) 0) false (not (notLater (c .there) (tipIn ts (c .who) .best .at)))) false
 
 -- the tip at i runs, and its cause no longer counts
 unfoldable pub stale : List Tip → ℕ → Bool

@@ -4,7 +4,7 @@ use mathlib.Core.Logic.{_≢_}
 use mathlib.Core.List.{List}
 use Prim.Native.Nat.{ℕ, _<_}
 use lib.ListN.{length, getD}
-use Rattle.fraction.specs.Small.{Small}
+use Rattle.fraction.specs.Sizes.{Timely}
 use Rattle.sheet.specs.Listing.{Listing}
 use Rattle.rule.specs.declared.Row.{Row}
 use Rattle.cause.specs.declared.Cause.{Cause}
@@ -21,7 +21,7 @@ Flagged known j = getD known j 0 ≢ 0
 pub record MayLookOn (S : Listing) (ts : List Tip) (i : ℕ) (c : Cause) : Type 0 where
   pub tip-in : i < length (S .tracks)
   pub stands : Stands S (tipAt S i) c
-  pub times : (k : ℕ) → k < length (S .tracks) → (tipIn ts k .ended ≡ 0 → ⊥) → Small (tipIn ts k .best .u) (tipIn ts k .best .ud)
+  pub times : (k : ℕ) → k < length (S .tracks) → (tipIn ts k .ended ≡ 0 → ⊥) → Timely (tipIn ts k .best .at)
 
 -- r is the first of c and the tracks with a flag, whatever rows the tips stand for
 pub record TracksLooked (S : Listing) (i : ℕ) (ts : List Tip) (known : List ℕ) (c r : Cause) : Type 0 where

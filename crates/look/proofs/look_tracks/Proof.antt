@@ -5,10 +5,10 @@ use Prim.Native.Nat.{_+_, _≤_, _<_, _-_}
 use lib.ListN.{length}
 use mathlib.Core.Path.{sym, subst}
 use mathlib.Core.Logic.{⊎-elim}
-use Rattle.cause.proofs.Answers.{reached-small}
+use Rattle.cause.proofs.Answers.{reached-timely}
 use Rattle.records.specs.Records.{sheetIn}
 use Rattle.tips.specs.Tips.{tipsIn}
-use Rattle.look.proofs.Tracks.{TracksUpTo, track-ok, end-small, tracks-start, offers, track-turn, track-skipped, tracks-end}
+use Rattle.look.proofs.Tracks.{TracksUpTo, track-ok, end-timely, tracks-start, offers, track-turn, track-skipped, tracks-end}
 use Rattle.look.proofs.look_tracks.Statement.{statement}
 use Rattle.look.proofs.look_tracks.Tie as tie
 
@@ -37,8 +37,8 @@ track-at-requires-2 c κs = (c .before .before .before .before .before .before .
 ended-requires : tie.Need-ended-requires Inv-loop μ-loop
 ended-requires c κs = (c .before .before .before .before .before .before .before .before .before .before .pre .1, omega (arith, c .before .before .before .before .before .before .before .before .before .before .pre .0 .accepted .few-tracks, c .before .before .before .loop-test .taken, c .before .before .before .before .before .before .track-count .ensures))
 
-best-of-requires : tie.Need-best-of-requires Inv-loop μ-loop
-best-of-requires c κs = (c .before .before .before .before .before .before .before .before .before .before .before .pre .1, omega (arith, c .before .before .before .before .before .before .before .before .before .before .before .pre .0 .accepted .few-tracks, c .before .before .before .before .loop-test .taken, c .before .before .before .before .before .before .before .track-count .ensures))
+end-of-requires : tie.Need-end-of-requires Inv-loop μ-loop
+end-of-requires c κs = (c .before .before .before .before .before .before .before .before .before .before .before .pre .1, omega (arith, c .before .before .before .before .before .before .before .before .before .before .before .pre .0 .accepted .few-tracks, c .before .before .before .before .loop-test .taken, c .before .before .before .before .before .before .before .track-count .ensures))
 
 on-trace-requires : tie.Need-on-trace-requires Inv-loop μ-loop
 on-trace-requires c κs = let o = c .before .before .before .before .before .before .before .before .before .before .before .before in
@@ -46,10 +46,10 @@ on-trace-requires c κs = let o = c .before .before .before .before .before .bef
     let h : k < length (sheetIn (o .args .records .now) .tracks) = omega (arith, c .before .before .before .before .before .loop-test .taken, c .before .before .before .before .before .before .before .before .track-count .ensures) in
     let S = sheetIn (o .args .records .now) in
     let acc = o .pre .0 .accepted in
-    (track-ok S acc (o .args .i) (o .pre .3 .tip-in) (c .before .before .before .before .before .before .before .track-at .ensures), track-ok S acc k h (c .before .before .track-at2 .ensures), end-small (o .pre .3) k h (c .best-of .result) (c .before .ended .ensures) (c .best-of .ensures))
+    (track-ok S acc (o .args .i) (o .pre .3 .tip-in) (c .before .before .before .before .before .before .before .track-at .ensures), track-ok S acc k h (c .before .before .track-at2 .ensures), end-timely (o .pre .3) k h (c .end-of .result) (c .before .ended .ensures) (c .end-of .ensures))
 
 with-track-requires : tie.Need-with-track-requires Inv-loop μ-loop
-with-track-requires c κs = (c .before .before .before .before .before .before .before .loop .inv .1 .fine, reached-small (c .on-trace .ensures))
+with-track-requires c κs = (c .before .before .before .before .before .before .before .loop .inv .1 .fine, reached-timely (c .on-trace .ensures))
 
 add-k : tie.Need-add-k Inv-loop μ-loop
 add-k c = search needs
@@ -94,7 +94,7 @@ look-tracks-spec =
     shared-slice-read-if1
     track-at-requires-2
     ended-requires
-    best-of-requires
+    end-of-requires
     on-trace-requires
     with-track-requires
     add-k
