@@ -3,7 +3,7 @@ use mathlib.Core.Logic.{_⊎_, inl, inr}
 use mathlib.Core.Path.{_≡_, refl, sym, ap, _∙_}
 use Prim.Native.Nat.{ℕ, zero, suc}
 use native.Mathlib.Omega.{arith}
-use Rattle.fraction.specs.Time.{Time, _≤ᵗ_, _<ᵗ_, fraction}
+use Rattle.fraction.specs.Time.{Time, _≤ᵗ_, _<ᵗ_, asTime}
 use Rattle.fraction.specs.Order.{≤ᵗ-or-<ᵗ}
 use Rattle.fraction.proofs.TimeOrder.{<ᵗ-≤ᵗ-trans, <ᵗ-irrefl}
 use Rattle.sheet.specs.Listing.{Listing}
@@ -50,12 +50,12 @@ module _ (S : Listing) (a : Track) (u s : Time) where
   left (suc (suc k)) w x y = refl
 
 pub ending-is : (S : Listing) (a : Track) {c : Cause} {r : Ending} → Stands S a c → EndingOf c r → r ≡ endingOf (candOf S c .u) (candOf S c .why)
-ending-is S a {c} t (meets z h e) = e ∙ met S a (fraction (c .u) (c .ud)) (fraction (c .s) (c .sd)) (c .class) (c .who) (c .id) z (t .named) h
-ending-is S a {c} t (crosses z h e) = e ∙ crossed S a (fraction (c .u) (c .ud)) (fraction (c .s) (c .sd)) (c .class) (c .who) (c .id) z (t .named) h
-ending-is S a {c} t (strikes z e) = e ∙ struck S a (fraction (c .u) (c .ud)) (fraction (c .s) (c .sd)) (c .class) (c .who) (c .id) z (t .named)
-ending-is S a {c} t (leaves x y e) = e ∙ left S a (fraction (c .u) (c .ud)) (fraction (c .s) (c .sd)) (c .class) (c .who) x y
+ending-is S a {c} t (meets z h e) = e ∙ met S a (asTime (c .at)) (asTime (c .there)) (c .class) (c .who) (c .id) z (t .named) h
+ending-is S a {c} t (crosses z h e) = e ∙ crossed S a (asTime (c .at)) (asTime (c .there)) (c .class) (c .who) (c .id) z (t .named) h
+ending-is S a {c} t (strikes z e) = e ∙ struck S a (asTime (c .at)) (asTime (c .there)) (c .class) (c .who) (c .id) z (t .named)
+ending-is S a {c} t (leaves x y e) = e ∙ left S a (asTime (c .at)) (asTime (c .there)) (c .class) (c .who) x y
 
 -- ---- the row of a cause
 
-pub row-is : (S : Listing) (a : Track) {c : Cause} {e : Ending} → Stands S a c → EndingOf c e → rowAt a (fraction (c .u) (c .ud)) e ≡ rowOf a (candOf S c)
-row-is S a {c} t g = ap (λ (z : Ending). rowAt a (fraction (c .u) (c .ud)) z) (ending-is S a t g)
+pub row-is : (S : Listing) (a : Track) {c : Cause} {e : Ending} → Stands S a c → EndingOf c e → rowAt a (asTime (c .at)) e ≡ rowOf a (candOf S c)
+row-is S a {c} t g = ap (λ (z : Ending). rowAt a (asTime (c .at)) z) (ending-is S a t g)

@@ -2,24 +2,25 @@
 use mathlib.Core.List.{List, _∷_, List·Memᴰ·head, List·Memᴰ·tail, List·Memᴰ·cases-cons}
 use mathlib.Core.Logic.{_⊎_, inl, inr, _≢_}
 use mathlib.Core.Path.{_≡_, refl, sym, ap, _∙_, subst}
-use Prim.Native.Nat.{ℕ, _<_}
+use Prim.Native.Nat.{ℕ, suc, pred, _<_}
 use native.Mathlib.Decide.{ℕ-discrete}
 use native.Mathlib.Omega.{arith}
 use lib.ListN.{length}
 use Rattle.fraction.specs.Time.{Time, _≈ᵗ_}
-use Rattle.fraction.proofs.TimeOrder.{≈ᵗ-sym}
-use Rattle.fraction.proofs.LowestTerms.{lowestOf-reduced, reduced-time}
+use Rattle.fraction.specs.Sizes.{Timely}
+use Rattle.fraction.proofs.Sizes.{lowest-timely}
+use Rattle.fraction.proofs.TimeOrder.{≈ᵗ-refl}
 use Rattle.sheet.specs.Accepted.{Accepted}
 use Rattle.sheet.specs.Listing.{Listing, _∈_}
 use Rattle.rule.specs.declared.Row.{Row}
-use Rattle.rule.specs.Causes.{Cand, rowOf, upTo}
+use Rattle.rule.specs.Causes.{Cand, low, rowOf, upTo}
 use Rattle.rule.specs.Rows.{time}
 use Rattle.rule.specs.Meanwhile.{Fresh}
 use Rattle.rule.proofs.Selection.{up-one}
 use Rattle.rule.proofs.Tests.{eqb-self}
-use Rattle.cause.specs.Cause.{tipAt, candOf}
+use Rattle.cause.specs.Cause.{tipAt, candOf, Fine}
 use Rattle.cause.specs.Looked.{Gone}
-use Rattle.tips.specs.Tips.{Tip, tipIn, withEnd}
+use Rattle.tips.specs.Tips.{Tip, tipIn, at-time, withEnd}
 use Rattle.look.specs.Ends.{endOf, Ends}
 use Rattle.tips.proofs.Put.{at-put}
 use Rattle.ending.proofs.Ended.{apart}
@@ -33,7 +34,12 @@ runs-on {S} {ts} {done} e j h f = go (ℕ-discrete (tipIn ts j .ended) 0)
     go (no x) = let g = e .ended j h x in absurd (f (g .row) (g .written) (g .named))
 
 abbrev pub over : Tip → Tip
-over t = record { best = t .best; base = t .base; ended = 1; cell = t .cell }
+over t = record { best = at-time (t .best) (low (endOf t)); base = t .base; ended = 1; cell = t .cell }
+
+pub over-fine : (t : Tip) → Fine (t .best) → Fine (over t .best)
+over-fine t f =
+    let e : suc (pred (t .best .at .den)) ≡ t .best .at .den = omega (arith, f .at .den-pos) in
+    record { at = lowest-timely (subst (λ (d : ℕ). Timely (record { num = t .best .at .num; den = d })) (sym e) (f .at)); there = f .there }
 
 -- ---- the tip at i ends by its cause
 
@@ -72,16 +78,16 @@ module _ {S : Listing} (acc : Accepted S) {ts : List Tip} {done : List Row} (e :
   unfolding upTo
   up-here u = rw (eqb-self (tipAt S i .id), upTo) refl
 
-  gone-here : Gone (row ∷ done) (tipAt S i) (endOf (tipIn ts i))
+  gone-here : Gone (row ∷ done) (tipAt S i) (endOf (over (tipIn ts i)))
   gone-here =
       record {
         row = row;
         written = List·Memᴰ·head refl;
         named = refl;
-        stops = λ u. subst (λ (z : Time). z ≈ᵗ endOf (tipIn ts i)) (sym (up-here u)) (≈ᵗ-sym (reduced-time (cand .u) (lowestOf-reduced (cand .u .num) (cand .u .den) (cand .u .den-pos))));
+        stops = λ u. subst (λ (z : Time). z ≈ᵗ time row) (sym (up-here u)) (≈ᵗ-refl (time row));
       }
 
-  pub ends-next : Ends S (withEnd ts i) (row ∷ done)
+  pub ends-next : Ends S (withEnd ts i (low (endOf (tipIn ts i)))) (row ∷ done)
   ends-next =
       record {
         running =

@@ -3,8 +3,9 @@ use mathlib.Core.List.{List}
 use mathlib.Core.Path.{_≡_, sym, ap, _∙_, subst}
 use Prim.Native.Nat.{ℕ, _*_}
 use lib.Seq.{sets}
-use Rattle.fraction.specs.Small.{Small}
-use Rattle.fraction.specs.Time.{fraction}
+use Rattle.fraction.specs.declared.Fraction.{Fraction}
+use Rattle.fraction.specs.Sizes.{Timely}
+use Rattle.fraction.specs.Time.{asTime}
 use Rattle.sheet.specs.Accepted.{TrackOk}
 use Rattle.sheet.specs.Listing.{Listing}
 use Rattle.sheet.specs.declared.Track.{Track}
@@ -16,22 +17,21 @@ use Rattle.row.specs.RowAt.{rowAt}
 use Rattle.cause.specs.declared.Cause.{Cause}
 use Rattle.cause.specs.Cause.{tipAt}
 use Rattle.tips.specs.Tips.{Tip, tipIn, withEnd}
+use Rattle.look.specs.Ends.{endOf}
 use Rattle.ending.specs.Ended.{Endable}
 use Rattle.ending.specs.Finished.{Finished}
 
-pub row-asked : {a b : Track} {c d : Cause} → a ≡ b → c ≡ d → Endable b d → TrackOk a × Small (c .u) (c .ud) × Inside a (fraction (c .u) (c .ud))
-row-asked {a} {b} {c} {d} p q h =
-    subst (λ (x : Track). TrackOk x × Small (c .u) (c .ud) × Inside x (fraction (c .u) (c .ud))) (sym p)
-    (subst (λ (z : Cause). TrackOk b × Small (z .u) (z .ud) × Inside b (fraction (z .u) (z .ud))) (sym q) (h .ok, h .fine .at, h .inside))
+pub row-asked : {a b : Track} {t : Fraction} {d : Cause} → a ≡ b → t ≡ d .at → Endable b d → TrackOk a × Timely t × Inside a (asTime t)
+row-asked {a} {b} {t} p q h =
+    subst (λ (x : Track). TrackOk x × Timely t × Inside x (asTime t)) (sym p)
+    (subst (λ (z : Fraction). TrackOk b × Timely z × Inside b (asTime z)) (sym q) (h .ok, h .fine .at, h .inside))
 
 pub is-finished :
-    (S : Listing) (i k : ℕ) (e : Ending) (ts : List Tip) {ts′ : List Tip} (out : List ℕ) {out′ : List ℕ} (a : Track) (c : Cause) {r : Row} → a ≡ tipAt S i → c ≡ tipIn ts i .best
-    → r ≡ rowAt a (fraction (c .u) (c .ud)) e → out′ ≡ sets out (rowWidth * k) (rowBytes r) → ts′ ≡ withEnd ts i → Finished S i k e ts out ts′ out′
-is-finished S i k e ts out a c p q m w n =
+    (S : Listing) (i k : ℕ) (e : Ending) (ts : List Tip) {ts′ : List Tip} (out : List ℕ) {out′ : List ℕ} (a : Track) (t : Fraction) {r : Row} → a ≡ tipAt S i → t ≡ tipIn ts i .best .at
+    → r ≡ rowAt a (asTime t) e → out′ ≡ sets out (rowWidth * k) (rowBytes r) → ts′ ≡ withEnd ts i (r .at) → Finished S i k e ts out ts′ out′
+is-finished S i k e ts out a t {r} p q m w n =
+    let is : r ≡ rowAt (tipAt S i) (endOf (tipIn ts i)) e = m ∙ ap (λ (z : Track). rowAt z (asTime t) e) p ∙ ap (λ (z : Fraction). rowAt (tipAt S i) (asTime z) e) q in
     record {
-      noted = n;
-      written =
-          w
-          ∙ ap (λ (z : Row). sets out (rowWidth * k) (rowBytes z))
-          (m ∙ ap (λ (z : Track). rowAt z (fraction (c .u) (c .ud)) e) p ∙ ap (λ (z : Cause). rowAt (tipAt S i) (fraction (z .u) (z .ud)) e) q);
+      noted = n ∙ ap (λ (z : Row). withEnd ts i (z .at)) is;
+      written = w ∙ ap (λ (z : Row). sets out (rowWidth * k) (rowBytes z)) is;
     }

@@ -2,7 +2,7 @@
 use mathlib.Core.Path.{_≡_}
 use Prim.Native.Nat.{ℕ, _≤_}
 use lib.ListN.{getD}
-use Rattle.fraction.specs.Time.{_≤ᵗ_, _<ᵗ_, fraction}
+use Rattle.fraction.specs.Time.{_≤ᵗ_, _<ᵗ_, asTime}
 use Rattle.sheet.specs.declared.Track.{Track}
 use Rattle.sheet.specs.Accepted.{TrackOk}
 use Rattle.sheet.specs.Listing.{Listing}
@@ -16,8 +16,8 @@ use Rattle.cause.specs.Cause.{Fine}
 
 -- the kind of ending (SHEETS 4.10)
 pub data EndingOf (c : Cause) (r : Ending) : Type 0 where
-  meets : c .class ≡ 0 → fraction (c .u) (c .ud) ≤ᵗ fraction (c .s) (c .sd) → r ≡ Meeting (c .id) → EndingOf c r
-  crosses : c .class ≡ 0 → fraction (c .s) (c .sd) <ᵗ fraction (c .u) (c .ud) → r ≡ ByTrack (c .id) → EndingOf c r
+  meets : c .class ≡ 0 → asTime (c .at) ≤ᵗ asTime (c .there) → r ≡ Meeting (c .id) → EndingOf c r
+  crosses : c .class ≡ 0 → asTime (c .there) <ᵗ asTime (c .at) → r ≡ ByTrack (c .id) → EndingOf c r
   strikes : c .class ≡ 1 → r ≡ ByWall (c .id) → EndingOf c r
   leaves : (c .class ≡ 0 → ⊥) → (c .class ≡ 1 → ⊥) → r ≡ Edge → EndingOf c r
 
@@ -26,7 +26,7 @@ pub record Endable (a : Track) (c : Cause) : Type 0 where
   pub ok : TrackOk a
   pub fine : Fine c
   pub id-in : c .id ≤ 65535
-  pub inside : Inside a (fraction (c .u) (c .ud))
+  pub inside : Inside a (asTime (c .at))
 
 -- the row at place k of the roll
 abbrev pub nextRow : Listing → ℕ → Row

@@ -6,6 +6,7 @@ use lib.ListN.{length}
 use lib.Seq.{sets}
 use Rattle.sheet.specs.Listing.{Listing}
 use Rattle.rule.specs.declared.Ending.{Ending}
+use Rattle.rule.specs.Causes.{low}
 use Rattle.rule.specs.RowBytes.{rowBytes, rowWidth}
 use Rattle.row.specs.RowAt.{rowAt}
 use Rattle.cause.specs.Cause.{tipAt}
@@ -23,7 +24,7 @@ pub record MayEnd (S : Listing) (i k : ℕ) (ts : List Tip) : Type 0 where
   pub endable : Endable (tipAt S i) (tipIn ts i .best)
   pub more : k < length (S .tracks)
 
--- its end is noted, and its row is at place k
+-- its end is noted, in lowest terms, and its row is at place k
 pub record Finished (S : Listing) (i k : ℕ) (e : Ending) (ts : List Tip) (out : List ℕ) (ts′ : List Tip) (out′ : List ℕ) : Type 0 where
-  pub noted : ts′ ≡ withEnd ts i
+  pub noted : ts′ ≡ withEnd ts i (low (endOf (tipIn ts i)))
   pub written : out′ ≡ sets out (rowWidth * k) (rowBytes (rowAt (tipAt S i) (endOf (tipIn ts i)) e))

@@ -14,7 +14,9 @@ pub fn by_track(c: Cause, id: u16) -> Ending
     requires { ⌜ Fine c × (c .class ≡ 0) × (c .id ≡ id) ⌝ }
     ensures { λ r. ⌜ EndingOf c r ⌝ }
 {
-    if contact::not_later(c.u, c.ud, c.s, c.sd) {
+    let at = c.at;
+    let there = c.there;
+    if fraction::not_later(at, there) {
         return Ending::Meeting(id);
     }
     Ending::ByTrack(id)
@@ -48,9 +50,8 @@ pub fn end_tip(
     ensures { λ r. ⌜ (r ≡ rows + 1) × Finished (sheetIn (now (records .entry))) i rows ending (tipsIn (now (tips .entry))) (now (out .entry)) (tipsIn (now (tips .exit))) (now (out .exit)) ⌝ }
 {
     let a = records::track_at(records, i);
-    let cause = tips::best_of(tips, i);
-    let row = row::row_of(a, cause.u, cause.ud, ending);
+    let row = row::row_of(a, tips::end_of(tips, i), ending);
     row::put_row(out, row::WIDTH * rows, row);
-    tips::put_end(tips, i);
+    tips::put_end(tips, i, row.at);
     rows + 1
 }

@@ -90,11 +90,11 @@ void-means ts c f g = go (ℕ-discrete (c .class) 0) (ℕ-discrete (tipIn ts (c 
 pub stale-means : {ts : List Tip} {i : ℕ} → MayTell ts i → Stale ts i (stale ts i)
 stale-means {ts} {i} m = go (ℕ-discrete (tipIn ts i .ended) 0)
   where
-    means : Void ts (tipIn ts i .best) (void ts (tipIn ts i .best))
-    means = void-means ts (tipIn ts i .best) (m .fine) (m .times)
+    means : tipIn ts i .ended ≡ 0 → Void ts (tipIn ts i .best) (void ts (tipIn ts i .best))
+    means x = void-means ts (tipIn ts i .best) (m .fine) (m .times x)
 
     go : Dec (tipIn ts i .ended ≡ 0) → Stale ts i (stale ts i)
-    go (yes x) = subst (Stale ts i) (sym (stale-runs ts i x)) (record { yes-runs = λ e. x; yes-void = means .no-longer; no-counts = λ e _. means .still e })
+    go (yes x) = subst (Stale ts i) (sym (stale-runs ts i x)) (record { yes-runs = λ e. x; yes-void = means x .no-longer; no-counts = λ e _. means x .still e })
     go (no x) = subst (Stale ts i) (sym (stale-ended ts i x)) (record { yes-runs = λ e. absurd (true≢false (sym e)); yes-void = λ e. absurd (true≢false (sym e)); no-counts = λ e y. absurd (x y) })
 
 -- ---- what counts in the tips counts in the rule

@@ -38,9 +38,9 @@ module _ (ts : List Tip) (i : ℕ) {n : ℕ} (e : n ≡ tipIn ts i .ended) where
 
 -- ---- what it may read
 
-module _ {ts : List Tip} {i : ℕ} (may : MayTell ts i) (c : Cause) (f : c ≡ tipIn ts i .best) where
+module _ {ts : List Tip} {i : ℕ} (may : MayTell ts i) {n : ℕ} (e : n ≡ tipIn ts i .ended) (x : n ≡ 0) (c : Cause) (f : c ≡ tipIn ts i .best) where
   pub who-in : c .class ≡ 0 → c .who < 256
-  who-in = subst (λ (d : Cause). d .class ≡ 0 → d .who < 256) (sym f) (may .known)
+  who-in = subst (λ (d : Cause). d .class ≡ 0 → d .who < 256) (sym f) (may .known (sym e ∙ x))
 
   pub own-timely : Timely (c .there)
   own-timely = subst (λ (d : Cause). Timely (d .there)) (sym f) (may .fine .there)
@@ -48,4 +48,4 @@ module _ {ts : List Tip} {i : ℕ} (may : MayTell ts i) (c : Cause) (f : c ≡ t
   pub end-timely : c .class ≡ 0 → {m : ℕ} → m ≡ tipIn ts (c .who) .ended → (m ≡ 0 → ⊥) → (end : Fraction) → end ≡ tipIn ts (c .who) .best .at → Timely end
   end-timely z k y end g =
       subst Timely (sym g)
-      (subst (λ (d : Cause). d .class ≡ 0 → (tipIn ts (d .who) .ended ≡ 0 → ⊥) → Timely (tipIn ts (d .who) .best .at)) (sym f) (λ w v. may .times w v .at) z (λ w. y (k ∙ w)))
+      (subst (λ (d : Cause). d .class ≡ 0 → (tipIn ts (d .who) .ended ≡ 0 → ⊥) → Timely (tipIn ts (d .who) .best .at)) (sym f) (λ w v. may .times (sym e ∙ x) w v .at) z (λ w. y (k ∙ w)))

@@ -16,12 +16,12 @@ pub data Counts (ts : List Tip) (c : Cause) : Type 0 where
   runs : c .class ≡ 0 → tipIn ts (c .who) .ended ≡ 0 → Counts ts c
   passed : c .class ≡ 0 → (tipIn ts (c .who) .ended ≡ 0 → ⊥) → asTime (c .there) ≤ᵗ endOf (tipIn ts (c .who)) → Counts ts c
 
--- what is read to tell whether the cause of the tip at i counts
+-- what is read to tell whether the cause of the tip at i counts, while it runs
 pub record MayTell (ts : List Tip) (i : ℕ) : Type 0 where
   pub tip-in : i < 256
   pub fine : Fine (tipIn ts i .best)
-  pub known : tipIn ts i .best .class ≡ 0 → tipIn ts i .best .who < 256
-  pub times : tipIn ts i .best .class ≡ 0 → (tipIn ts (tipIn ts i .best .who) .ended ≡ 0 → ⊥) → Fine (tipIn ts (tipIn ts i .best .who) .best)
+  pub known : tipIn ts i .ended ≡ 0 → tipIn ts i .best .class ≡ 0 → tipIn ts i .best .who < 256
+  pub times : tipIn ts i .ended ≡ 0 → tipIn ts i .best .class ≡ 0 → (tipIn ts (tipIn ts i .best .who) .ended ≡ 0 → ⊥) → Fine (tipIn ts (tipIn ts i .best .who) .best)
 
 -- the same as a test: c is a track whose tip ended before it was there
 unfoldable pub void : List Tip → Cause → Bool

@@ -11,10 +11,10 @@ not-later-requires : tie.Need-not-later-requires
 not-later-requires c κs = search needs
 
 returns : tie.Need-returns
-returns c = let p = c .before .before .pre in meets (p .1) (not-later (p .0 .at) (p .0 .there) (sym (c .before .not-later .ensures) ∙ c .if1 .taken)) (ap Meeting (sym (p .2)))
+returns c = let p = c .before .before .before .before .pre in meets (p .1) (not-later (p .0 .at) (p .0 .there) (sym (c .before .not-later .ensures) ∙ c .if1 .taken)) (ap Meeting (sym (p .2)))
 
 returns-2 : tie.Need-returns-2
-returns-2 c = let p = c .before .before .pre in crosses (p .1) (later (p .0 .at) (p .0 .there) (sym (c .before .not-later .ensures) ∙ c .if1 .left)) (ap ByTrack (sym (p .2)))
+returns-2 c = let p = c .before .before .before .before .pre in crosses (p .1) (later (p .0 .at) (p .0 .there) (sym (c .before .not-later .ensures) ∙ c .if1 .left)) (ap ByTrack (sym (p .2)))
 
 pub by-track-spec : {M : Type 1} → statement M
 by-track-spec = tie.close (tie.spec not-later-requires returns returns-2)

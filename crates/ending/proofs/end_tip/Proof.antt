@@ -11,11 +11,11 @@ use Rattle.ending.proofs.end_tip.Tie as tie
 track-at-requires : tie.Need-track-at-requires
 track-at-requires c κs = search needs
 
-best-of-requires : tie.Need-best-of-requires
-best-of-requires c κs = search needs
+end-of-requires : tie.Need-end-of-requires
+end-of-requires c κs = search needs
 
 row-of-requires : tie.Need-row-of-requires
-row-of-requires c κs = row-asked (c .before .before .track-at .ensures) (c .best-of .ensures) (c .before .before .before .before .before .before .pre .2 .endable)
+row-of-requires c κs = row-asked (c .before .before .track-at .ensures) (c .end-of .ensures) (c .before .before .before .before .before .before .pre .2 .endable)
 
 mul-put-row : tie.Need-mul-put-row
 mul-put-row c = search needs
@@ -39,8 +39,8 @@ returns : tie.Need-returns
 returns c =
     let a = c .before .before .before .before .before .before .before .before .before .before .before .before .before .before .before .args in (
       refl,
-      is-finished (sheetIn (a .records .now)) (a .i) (a .rows) (a .ending) (tipsIn (a .tips .now)) (a .out .now) (c .before .before .before .before .before .before .before .before .before .before .before .track-at .result) (c .before .before .before .before .before .before .before .before .before .best-of .result)
-          (c .before .before .before .before .before .before .before .before .before .before .before .track-at .ensures) (c .before .before .before .before .before .before .before .before .before .best-of .ensures) (c .before .before .before .before .before .before .before .before .row-of .ensures) (c .before .before .before .before .before .before .put-row .ensures) (c .before .before .put-end .ensures),
+      is-finished (sheetIn (a .records .now)) (a .i) (a .rows) (a .ending) (tipsIn (a .tips .now)) (a .out .now) (c .before .before .before .before .before .before .before .before .before .before .before .track-at .result) (c .before .before .before .before .before .before .before .before .before .end-of .result)
+          (c .before .before .before .before .before .before .before .before .before .before .before .track-at .ensures) (c .before .before .before .before .before .before .before .before .before .end-of .ensures) (c .before .before .before .before .before .before .before .before .row-of .ensures) (c .before .before .before .before .before .before .put-row .ensures) (c .before .before .put-end .ensures),
     )
 
 pub end-tip-spec : {M : Type 1} → statement M
@@ -48,7 +48,7 @@ end-tip-spec =
     tie.close
     (tie.spec
     track-at-requires
-    best-of-requires
+    end-of-requires
     row-of-requires
     mul-put-row
     put-row-requires

@@ -12,17 +12,17 @@ best-of-requires : tie.Need-best-of-requires
 best-of-requires c κs = search needs
 
 ended-requires-2 : tie.Need-ended-requires-2
-ended-requires-2 c κs = (c .before .before .before .before .before .before .pre .0, who-in (c .before .before .before .before .before .before .pre .1) (c .before .before .best-of .result) (c .before .before .best-of .ensures) (c .if2 .taken))
+ended-requires-2 c κs = (c .before .before .before .before .before .before .pre .0, who-in (c .before .before .before .before .before .before .pre .1) (c .before .before .before .before .ended .ensures) (c .before .before .before .if1 .taken) (c .before .before .best-of .result) (c .before .before .best-of .ensures) (c .if2 .taken))
 
 returns : tie.Need-returns
 returns c = let a = c .before .before .before .before .before .before .before .before .args in told-runs (tipsIn (a .tips .now)) (a .i) (c .before .before .before .before .before .before .ended .ensures) (c .before .before .before .before .before .if1 .taken) (c .before .before .before .before .best-of .result) (c .before .before .before .before .best-of .ensures) (c .before .before .if2 .taken) (c .before .ended2 .ensures) (c .if3 .taken)
 
 end-of-requires : tie.Need-end-of-requires
-end-of-requires c κs = (c .before .before .before .before .before .before .before .before .before .pre .0, who-in (c .before .before .before .before .before .before .before .before .before .pre .1) (c .before .before .before .before .before .best-of .result) (c .before .before .before .before .before .best-of .ensures) (c .before .before .before .if2 .taken))
+end-of-requires c κs = (c .before .before .before .before .before .before .before .before .before .pre .0, who-in (c .before .before .before .before .before .before .before .before .before .pre .1) (c .before .before .before .before .before .before .before .ended .ensures) (c .before .before .before .before .before .before .if1 .taken) (c .before .before .before .before .before .best-of .result) (c .before .before .before .before .before .best-of .ensures) (c .before .before .before .if2 .taken))
 
 not-later-requires : tie.Need-not-later-requires
 not-later-requires c κs = let own = c .before .before .before .before .before .before .best-of in
-    (own-timely (c .before .before .before .before .before .before .before .before .before .before .pre .1) (own .result) (own .ensures), end-timely (c .before .before .before .before .before .before .before .before .before .before .pre .1) (own .result) (own .ensures) (c .before .before .before .before .if2 .taken) (c .before .before .before .ended2 .ensures) (c .before .before .if3 .left) (c .end-of .result) (c .end-of .ensures))
+    (own-timely (c .before .before .before .before .before .before .before .before .before .before .pre .1) (c .before .before .before .before .before .before .before .before .ended .ensures) (c .before .before .before .before .before .before .before .if1 .taken) (own .result) (own .ensures), end-timely (c .before .before .before .before .before .before .before .before .before .before .pre .1) (c .before .before .before .before .before .before .before .before .ended .ensures) (c .before .before .before .before .before .before .before .if1 .taken) (own .result) (own .ensures) (c .before .before .before .before .if2 .taken) (c .before .before .before .ended2 .ensures) (c .before .before .if3 .left) (c .end-of .result) (c .end-of .ensures))
 
 returns-2 : tie.Need-returns-2
 returns-2 c = let a = c .before .before .before .before .before .before .before .before .before .before .before .before .args in told-passed (tipsIn (a .tips .now)) (a .i) (c .before .before .before .before .before .before .before .before .before .before .ended .ensures) (c .before .before .before .before .before .before .before .before .before .if1 .taken) (c .before .before .before .before .before .before .before .before .best-of .result) (c .before .before .before .before .before .before .before .before .best-of .ensures) (c .before .before .before .before .before .before .if2 .taken) (c .before .before .before .before .before .ended2 .ensures) (c .before .before .before .before .if3 .left) (c .before .before .end-of .result) (c .before .before .end-of .ensures) (c .before .not-later .ensures) (c .if4 .taken)
