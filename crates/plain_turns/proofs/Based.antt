@@ -4,7 +4,7 @@ use mathlib.Core.Logic.{inl}
 use Prim.Native.Nat.{ℕ, _<_}
 use native.Mathlib.Omega.{arith}
 use lib.ListN.{length}
-use Rattle.fraction.specs.Time.{fraction}
+use Rattle.fraction.specs.Time.{asTime}
 use Rattle.sheet.specs.declared.Track.{Track}
 use Rattle.sheet.specs.declared.Wall.{Wall}
 use Rattle.sheet.specs.Accepted.{Accepted, WallOk}
@@ -58,4 +58,4 @@ module _ (S : Listing) {done : List Row} (i : ℕ) (known : List ℕ) {c r : Cau
   seen-of all = record { foremost = foremost-better (f .stands) (f .first) (b .foremost); at-tips = λ j h. f .at-tips j h (all j h) }
 
   pub live-of : Live done (candOf S r .u) (candOf S r .why)
-  live-of = f .live (walls-live S done (fraction (c .u) (c .ud)) (fraction (c .s) (c .sd)) (c .class) (c .who) (b .no-track))
+  live-of = f .live (walls-live S done (asTime (c .at)) (asTime (c .there)) (c .class) (c .who) (b .no-track))

@@ -112,7 +112,7 @@ module _ {S : Listing} (acc : Accepted S) {known : List ℕ} (all : AllKnown kno
 pub begin-state : {S : Listing} → Accepted S → {ts : List Tip} → Begun S ts (length (S .tracks)) → State S 0 ts
 begin-state acc b =
     record {
-      held = record { long = b .long; stands = λ k l. b .seen k l .foremost .stands; based = b .based; some = []; ends = ends-none (b .none) };
+      held = record { long = b .long; fine = λ k l. b .seen k l .foremost .stands .fine; stands = λ k l z. b .seen k l .foremost .stands; based = b .based; some = []; ends = ends-none (b .none) };
       out = refl;
       done = [];
       progress = progress-start acc;

@@ -6,10 +6,10 @@ use Prim.Native.Nat.{ℕ, _+_, _<_}
 use native.Mathlib.Omega.{arith}
 use lib.ListN.{length}
 use borrow.Author.Count.{below-more}
+use Rattle.fraction.specs.declared.Fraction.{Fraction}
 use Rattle.fraction.proofs.TimeOrder.{≈ᵗ-refl, ≈ᵗ-trans, ≈ᵗ→≤ᵗ, <ᵗ-trans, <ᵗ-≤ᵗ-trans, ≤ᵗ-<ᵗ-trans}
 use Rattle.sheet.specs.Listing.{Listing}
 use Rattle.sheet.specs.declared.Track.{Track}
-use Rattle.cause.specs.declared.Cause.{Cause}
 use Rattle.cause.specs.Cause.{tipAt}
 use Rattle.tips.specs.Tips.{Tip, tipIn}
 use Rattle.plain_turns.specs.declared.Key.{Key}
@@ -31,8 +31,8 @@ ahead-trans (together e h m) (together f k l) = together (omega arith) (≈ᵗ-t
 
 -- the best so far is the key of its place, and ahead of the first i
 pub record Best (S : Listing) (ts : List Tip) (i : ℕ) (b : Key) : Type 0 where
-  pub is : b ≡ keyIn S ts (b .at)
-  pub picked : Picked S ts i (b .at)
+  pub is : b ≡ keyIn S ts (b .tip)
+  pub picked : Picked S ts i (b .tip)
 
 module _ (S : Listing) (ts : List Tip) where
   pub pick-first : 0 < length (S .tracks) → {b : Key} → b ≡ keyIn S ts 0 → Best S ts 0 b
@@ -46,7 +46,7 @@ module _ (S : Listing) (ts : List Tip) where
           subst (Best S ts (i + 1)) (sym e)
           (record {
             is = p .is;
-            picked = record { place = p .picked .place; ahead = below-more (λ (j : ℕ). Ahead (keyIn S ts (b .at)) (keyIn S ts j)) i (p .picked .ahead) (subst (λ (z : Key). Ahead z (keyIn S ts i)) (p .is) q) };
+            picked = record { place = p .picked .place; ahead = below-more (λ (j : ℕ). Ahead (keyIn S ts (b .tip)) (keyIn S ts j)) i (p .picked .ahead) (subst (λ (z : Key). Ahead z (keyIn S ts i)) (p .is) q) };
           })
       go (inr (e, q)) =
           subst (Best S ts (i + 1)) (sym e)
@@ -59,5 +59,5 @@ module _ (S : Listing) (ts : List Tip) where
           })
 
 -- what was read is the key
-pub key-read : (S : Listing) (ts : List Tip) (i : ℕ) {n : ℕ} {c : Cause} {a : Track} → n ≡ tipIn ts i .ended → c ≡ tipIn ts i .best → a ≡ tipAt S i → _≡_ {A = Key} (record { ended = n; u = c .u; ud = c .ud; id = a .id; at = i }) (keyIn S ts i)
-key-read S ts i p q r = λ j. record { ended = p j; u = q j .u; ud = q j .ud; id = r j .id; at = i }
+pub key-read : (S : Listing) (ts : List Tip) (i : ℕ) {n : ℕ} {t : Fraction} {a : Track} → n ≡ tipIn ts i .ended → t ≡ tipIn ts i .best .at → a ≡ tipAt S i → _≡_ {A = Key} (record { ended = n; at = t; id = a .id; tip = i }) (keyIn S ts i)
+key-read S ts i p q r = λ j. record { ended = p j; at = q j; id = r j .id; tip = i }

@@ -14,7 +14,7 @@ use Rattle.sheet.proofs.Lists.{mem-at}
 use Rattle.rule.specs.declared.Row.{Row}
 use Rattle.rule.specs.Meanwhile.{Fresh, Live}
 use Rattle.cause.specs.declared.Cause.{Cause}
-use Rattle.cause.specs.Cause.{tipAt, candOf, Stands}
+use Rattle.cause.specs.Cause.{tipAt, candOf, Fine, Stands}
 use Rattle.cause.specs.Looked.{Gone, FirstOfTracks}
 use Rattle.tips.specs.Tips.{Tip, tipIn, withBest}
 use Rattle.tips.proofs.Put.{at-put}
@@ -30,19 +30,19 @@ use Rattle.plain_turns.proofs.Based.{seen-of, live-of}
 
 module _ {S : Listing} {ts : List Tip} (h : Held S ts) where
   pub held-pick : 0 < length (S .tracks) → MayPick S ts
-  held-pick l = record { some = l; times = λ k m. h .stands k m .fine .at }
+  held-pick l = record { some = l; times = λ k m. h .fine k m .at }
 
   module _ (i : ℕ) (l : i < length (S .tracks)) where
     pub held-look : MayLookOn S ts i (tipIn ts i .base)
-    held-look = record { tip-in = l; stands = h .based i l .foremost .stands; times = λ k m x. h .stands k m .fine .at }
+    held-look = record { tip-in = l; stands = h .based i l .foremost .stands; times = λ k m x. h .fine k m .at }
 
     pub held-tell : Accepted S → MayTell ts i
     held-tell acc =
         record {
           tip-in = omega (arith, acc .few-tracks);
-          fine = h .stands i l .fine;
-          known = λ e. let k = h .stands i l .known e in omega (arith, acc .few-tracks);
-          times = λ e x. h .stands (tipIn ts i .best .who) (h .stands i l .known e) .fine;
+          fine = h .fine i l;
+          known = λ r e. let k = h .stands i l r .known e in omega (arith, acc .few-tracks);
+          times = λ r e x. h .fine (tipIn ts i .best .who) (h .stands i l r .known e);
         }
 
 -- ---- one tip more
@@ -64,7 +64,7 @@ module _ {S : Listing} (acc : Accepted S) {known : List ℕ} (all : AllKnown kno
         held = f .held;
         kept = f .kept;
         live = λ done k. below-more (LiveAt ts done) i (f .live done k)
-            (λ z. counts-live S acc ts done (f .kept done k .ends) (tipAt S i) (mem-at noTrack (S .tracks) i l) (f .held .stands i l) (told x .no-counts e z));
+            (λ z. counts-live S acc ts done (f .kept done k .ends) (tipAt S i) (mem-at noTrack (S .tracks) i l) (f .held .stands i l z) (told x .no-counts e z));
       }
 
   module _ (x : tipIn ts i .ended ≡ 0) (c : Cause) (o : TracksLooked S i ts known (tipIn ts i .base) c) where
@@ -95,7 +95,8 @@ module _ {S : Listing} (acc : Accepted S) {known : List ℕ} (all : AllKnown kno
         let h = f .held in
         record {
           long = length-set ts i new ∙ h .long;
-          stands = at-put (λ (k : ℕ) (t : Tip). k < length (S .tracks) → Stands S (tipAt S k) (t .best)) ts i new room (λ m. o .looked (h .some) (h .ends) .stands) (λ k n. h .stands k);
+          fine = at-put (λ (k : ℕ) (t : Tip). k < length (S .tracks) → Fine (t .best)) ts i new room (λ m. o .fine) (λ k n. h .fine k);
+          stands = at-put (λ (k : ℕ) (t : Tip). k < length (S .tracks) → t .ended ≡ 0 → Stands S (tipAt S k) (t .best)) ts i new room (λ m z. o .looked (h .some) (h .ends) .stands) (λ k n. h .stands k);
           based = at-put (λ (k : ℕ) (t : Tip). k < length (S .tracks) → Based S (tipAt S k) (t .base)) ts i new room (h .based i) (λ k n. h .based k);
           some = h .some;
           ends = ends-new (h .some) (h .ends);

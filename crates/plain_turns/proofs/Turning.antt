@@ -15,7 +15,7 @@ use Rattle.sheet.specs.declared.Wall.{Wall}
 use Rattle.sheet.proofs.Lists.{mem-at, at-mem}
 use Rattle.rule.specs.declared.Row.{Row}
 use Rattle.rule.specs.declared.Ending.{Ending}
-use Rattle.rule.specs.Causes.{by-side, Cand, Below, rowOf}
+use Rattle.rule.specs.Causes.{by-side, Cand, Below, low, rowOf}
 use Rattle.rule.specs.Contact.{when}
 use Rattle.rule.specs.RowBytes.{rowBytes, rowWidth}
 use Rattle.rule.specs.Selection.{rollOf}
@@ -30,12 +30,13 @@ use Rattle.cause.specs.declared.Cause.{Cause}
 use Rattle.cause.specs.Cause.{tipAt, candOf, Fine, Stands}
 use Rattle.tips.specs.Tips.{Tip, tipIn, withEnd}
 use Rattle.tips.proofs.Put.{at-put}
+use Rattle.look.specs.Ends.{endOf}
 use Rattle.ending.specs.Ended.{EndingOf, nextRow}
 use Rattle.ending.specs.Finished.{MayEnd, Finished}
 use Rattle.ending.proofs.Ended.{row-next, out-next, progress-next}
 use Rattle.ending.proofs.Endings.{row-is}
 use Rattle.ending.proofs.Rolling.{written-next}
-use Rattle.ending.proofs.Ends.{runs-on, over, ends-next}
+use Rattle.ending.proofs.Ends.{runs-on, over, over-fine, ends-next}
 use Rattle.plain_turns.specs.Key.{Ahead, running, earlier, together, keyIn, Picked}
 use Rattle.plain_turns.specs.State.{Based, Seen, Kept, Refreshed, State}
 
@@ -52,9 +53,6 @@ module _ {S : Listing} (acc : Accepted S) {ts new : List Tip} {k i : ℕ} (st : 
   on : (j : ℕ) → j < length (S .tracks) → tipAt S j ∈ S .tracks
   on j h = mem-at noTrack (S .tracks) j h
 
-  stands : Stands S (tipAt S i) (tipIn new i .best)
-  stands = f .held .stands i (p .place)
-
   -- a tip that runs is not ahead of the one picked
   behind : (j : ℕ) → j < length (S .tracks) → tipIn new j .ended ≡ 0 → (tipIn new i .ended ≡ 0) × ((cand i .u <ᵗ cand j .u) ⊎ ((cand i .u ≈ᵗ cand j .u) × (tipAt S i .id ≤ tipAt S j .id)))
   behind j h x = go (p .ahead j h)
@@ -69,6 +67,9 @@ module _ {S : Listing} (acc : Accepted S) {ts new : List Tip} {k i : ℕ} (st : 
       let (a, r) = progress-more acc (st .progress) (omega (arith, st .out)) in
       let (j, h, e) = at-mem noTrack (S .tracks) a (r .on-sheet) in
       behind j h (runs-on (kept .ends) j h (subst (λ (z : Track). Fresh done z) (sym e) (r .fresh))) .0
+
+  stands : Stands S (tipAt S i) (tipIn new i .best)
+  stands = f .held .stands i (p .place) runs
 
   fresh : Fresh done (tipAt S i)
   fresh = kept .ends .running i (p .place) runs
@@ -129,13 +130,14 @@ module _ {S : Listing} (acc : Accepted S) {ts new : List Tip} {k i : ℕ} (st : 
               at-tips = λ m g x. beats-step (tipAt S i) row acc (on j h) (on m g) x refl (record { on-sheet = on i (p .place); fresh = fresh }) (q .at-tips m g x);
             }
 
-        state : State S (k + 1) (withEnd new i)
+        state : State S (k + 1) (withEnd new i (low (endOf (tipIn new i))))
         state =
             let e = ends-next acc (kept .ends) (p .place) room in
             record {
               held = record {
                 long = length-set new i (over (tipIn new i)) ∙ f .held .long;
-                stands = at-put (λ (j : ℕ) (t : Tip). j < length (S .tracks) → Stands S (tipAt S j) (t .best)) new i (over (tipIn new i)) room (f .held .stands i) (λ j n. f .held .stands j);
+                fine = at-put (λ (j : ℕ) (t : Tip). j < length (S .tracks) → Fine (t .best)) new i (over (tipIn new i)) room (λ h. over-fine (tipIn new i) (f .held .fine i h)) (λ j n. f .held .fine j);
+                stands = at-put (λ (j : ℕ) (t : Tip). j < length (S .tracks) → t .ended ≡ 0 → Stands S (tipAt S j) (t .best)) new i (over (tipIn new i)) room (λ h z. absurd (omega (arith, z))) (λ j n. f .held .stands j);
                 based = at-put (λ (j : ℕ) (t : Tip). j < length (S .tracks) → Based S (tipAt S j) (t .base)) new i (over (tipIn new i)) room (f .held .based i) (λ j n. f .held .based j);
                 some = row ∷ done;
                 ends = e;
@@ -154,6 +156,6 @@ state-as {S} {ts = ts} e s = subst (λ (z : ℕ). State S z ts) (sym e) s
 
 -- the rows that are written, with one more
 pub rows-then :
-    (S : Listing) (k : ℕ) {m : ℕ} {ts ts′ : List Tip} {before after more : List ℕ} → State S k ts → State S (k + 1) ts′ → m ≡ k + 1 → rowWidth * k + 29 ≤ length before
+    (S : Listing) (k : ℕ) {m : ℕ} {ts ts′ : List Tip} {before after more : List ℕ} → State S k ts → State S (k + 1) ts′ → m ≡ k + 1 → rowWidth * k + rowWidth ≤ length before
     → more ≡ sets after (rowWidth * k) (rowBytes (nextRow S k)) → Written (take k (rollOf S)) before after → Written (take m (rollOf S)) before more
 rows-then S k {before = before} {more = more} s t e h x w = subst (λ (z : ℕ). Written (take z (rollOf S)) before more) (sym e) (written-next S k (s .out) (t .out) h x w)

@@ -15,7 +15,7 @@ use Rattle.rule.specs.Selection.{rollOf}
 use Rattle.rule.specs.WallTime.{wallTime}
 use Rattle.rule.specs.Meanwhile.{Beats, Live, Progress}
 use Rattle.cause.specs.declared.Cause.{Cause}
-use Rattle.cause.specs.Cause.{tipAt, wallAt, candOf, Stands}
+use Rattle.cause.specs.Cause.{tipAt, wallAt, candOf, Fine, Stands}
 use Rattle.tips.specs.Tips.{Tip, tipIn}
 use Rattle.look.specs.Ends.{Ends}
 use Rattle.look.specs.Tracks.{Flagged}
@@ -40,10 +40,11 @@ pub record Based (S : Listing) (a : Track) (c : Cause) : Type 0 where
 
 -- ---- the tips, whatever has ended
 
--- each has a cause and a base cause, and those that have ended the time of a row
+-- each has a time and a base cause, those that run a cause, and those that have ended the time of a row
 pub record Held (S : Listing) (ts : List Tip) : Type 0 where
   pub long : length ts ≡ 256
-  pub stands : (k : ℕ) → k < length (S .tracks) → Stands S (tipAt S k) (tipIn ts k .best)
+  pub fine : (k : ℕ) → k < length (S .tracks) → Fine (tipIn ts k .best)
+  pub stands : (k : ℕ) → k < length (S .tracks) → tipIn ts k .ended ≡ 0 → Stands S (tipAt S k) (tipIn ts k .best)
   pub based : (k : ℕ) → k < length (S .tracks) → Based S (tipAt S k) (tipIn ts k .base)
   pub some : List Row
   pub ends : Ends S ts some

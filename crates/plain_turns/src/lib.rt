@@ -3,6 +3,7 @@ ghost use mathlib.Core.Path.{_≡_};
 ghost use Prim.Native.Nat.{_+_, _*_, _≤_, _<_};
 ghost use lib.ListN.{length};
 ghost use lib.Seq.{sets};
+ghost use Rattle.fraction.specs.Sizes.{Timely};
 ghost use Rattle.sheet.specs.HandedIn.{handedIn};
 ghost use Rattle.records.specs.Records.{Handed, Recorded, sheetIn};
 ghost use Rattle.rule.specs.RowBytes.{rowBytes, rowWidth};
@@ -12,24 +13,24 @@ ghost use Rattle.cause.specs.Cause.{tipAt};
 ghost use Rattle.tips.specs.Tips.{Room, tipsIn};
 ghost use Rattle.ending.specs.Ended.{nextRow};
 ghost use Rattle.ending.specs.Finished.{RoomFor};
-ghost use Rattle.plain_turns.specs.Key.{Timed, Soonest, keyIn, MayPick, Picked};
+ghost use Rattle.plain_turns.specs.Key.{Soonest, keyIn, MayPick, Picked};
 ghost use Rattle.plain_turns.specs.State.{AllKnown, Based, Held, Refreshed, Begun, State};
 use cause::Cause;
 use cause::Region;
+use fraction::Fraction;
 use sheet::Sheet;
 
 // What the next tip to end is found by: ended tips behind the running ones, then by time, then by id. All fields are words, so that a copy has no gaps to carry along.
 pub struct Key {
     pub ended: u64,
-    pub u: u64,
-    pub ud: u64,
+    pub at: Fraction,
     pub id: u64,
-    pub at: usize,
+    pub tip: usize,
 }
 
 // The key that comes first.
 fn sooner(a: Key, b: Key) -> Key
-    requires { ⌜ Timed a × Timed b ⌝ }
+    requires { ⌜ Timely (a .at) × Timely (b .at) ⌝ }
     ensures { λ r. ⌜ Soonest a b r ⌝ }
 {
     if a.ended < b.ended {
@@ -38,8 +39,10 @@ fn sooner(a: Key, b: Key) -> Key
     if b.ended < a.ended {
         return b;
     }
-    if contact::not_later(a.u, a.ud, b.u, b.ud) {
-        if contact::not_later(b.u, b.ud, a.u, a.ud) {
+    let s = a.at;
+    let t = b.at;
+    if fraction::not_later(s, t) {
+        if fraction::not_later(t, s) {
             if a.id <= b.id {
                 return a;
             }
@@ -56,13 +59,11 @@ fn key_at(records: &[u16], tips: &[u64], i: usize) -> Key
     ensures { λ r. ⌜ r ≡ keyIn (sheetIn (now (records .entry))) (tipsIn (now (tips .entry))) i ⌝ }
 {
     let a = records::track_at(records, i);
-    let c = tips::best_of(tips, i);
     Key {
         ended: tips::ended(tips, i),
-        u: c.u,
-        ud: c.ud,
+        at: tips::end_of(tips, i),
         id: a.id as u64,
-        at: i,
+        tip: i,
     }
 }
 
@@ -79,7 +80,7 @@ fn pick(records: &[u16], tips: &[u64]) -> usize
         best = sooner(best, next);
         i += 1;
     }
-    best.at
+    best.tip
 }
 
 // The first of the edge and all walls, for the tip at i.

@@ -5,7 +5,9 @@ use native.Mathlib.Omega.{arith}
 use lib.ListN.{length}
 use Rattle.records.specs.Records.{sheetIn}
 use Rattle.tips.specs.Tips.{tipsIn}
-use Rattle.plain_turns.specs.Key.{Timed, Picked}
+use Rattle.fraction.specs.Sizes.{Timely}
+use Rattle.plain_turns.specs.declared.Key.{Key}
+use Rattle.plain_turns.specs.Key.{Picked}
 use Rattle.plain_turns.proofs.Keys.{Best, pick-first, pick-next}
 use borrow.Author.Needs.{needs}
 use Rattle.plain_turns.proofs.pick.Statement.{statement}
@@ -34,8 +36,8 @@ sooner-requires c κs =
     let m = c .before .before .before .before .before .before .before .pre .2 in
     let l = c .before .before .loop in
     let b = l .inv .1 in (
-      subst Timed (sym (b .is)) (record { small = m .times (l .best .at) (b .picked .place) }),
-      subst Timed (sym (c .key-at2 .ensures)) (record { small = m .times (l .i) (omega (arith, c .before .loop-test .taken, c .before .before .before .before .track-count .ensures)) }),
+      subst (λ (k : Key). Timely (k .at)) (sym (b .is)) (m .times (l .best .tip) (b .picked .place)),
+      subst (λ (k : Key). Timely (k .at)) (sym (c .key-at2 .ensures)) (m .times (l .i) (omega (arith, c .before .loop-test .taken, c .before .before .before .before .track-count .ensures))),
     )
 
 add-i : tie.Need-add-i Inv-loop μ-loop
@@ -56,7 +58,7 @@ returns c =
     let a = c .before .before .before .before .before .before .args in
     let l = c .before .loop in
     let e : l .i ≡ length (sheetIn (a .records .now) .tracks) = omega (arith, l .inv .0, c .loop-test .left, c .before .before .before .track-count .ensures) in
-    subst (λ (k : ℕ). Picked (sheetIn (a .records .now)) (tipsIn (a .tips .now)) k (l .best .at)) e (l .inv .1 .picked)
+    subst (λ (k : ℕ). Picked (sheetIn (a .records .now)) (tipsIn (a .tips .now)) k (l .best .tip)) e (l .inv .1 .picked)
 
 pub pick-spec : {M : Type 1} → statement M
 pick-spec =
