@@ -229,6 +229,14 @@ module _ (S : Listing) (acc : Accepted S) (a : Track) (here : a ∈ S .tracks) (
     pub tip-looked : {c r : Cause} → Stands S a c → TipOffered a b k ended end c r → FirstOfTracks S done a (λ (j : ℕ). j ≡ k) c r
     tip-looked s o = tip-taken s (o .reached) (o .taken)
 
+-- the same of what was read
+pub offered-as : {a a′ b b′ : Track} {k n n′ : ℕ} {end end′ : Fraction} {c c′ r : Cause} → a ≡ a′ → b ≡ b′ → n ≡ n′ → end ≡ end′ → c ≡ c′ → TipOffered a b k n end c r → TipOffered a′ b′ k n′ end′ c′ r
+offered-as {a} {a′} {b} {b′} {k} {n} {n′} {end} {end′} {c} {c′} {r} p q m e f o =
+    subst (λ (z : Cause). TipOffered a′ b′ k n′ end′ z r) f
+    (subst (λ (z : Fraction). TipOffered a′ b′ k n′ z c r) e
+    (subst (λ (z : ℕ). TipOffered a′ b′ k z end c r) m
+    (subst (λ (z : Track). TipOffered a′ z k n end c r) q (subst (λ (z : Track). TipOffered z b k n end c r) p o))))
+
 -- ---- numbers of times, whatever the sheet
 
 pub wall-fine : {a : Track} {w : Wall} {k : ℕ} {c r : Cause} → Fine c → WallOffered a w k c r → Fine r

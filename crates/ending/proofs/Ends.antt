@@ -20,9 +20,10 @@ use Rattle.rule.proofs.Selection.{up-one}
 use Rattle.rule.proofs.Tests.{eqb-self}
 use Rattle.cause.specs.Cause.{tipAt, candOf, Fine}
 use Rattle.cause.specs.Looked.{Gone}
-use Rattle.tips.specs.Tips.{Tip, tipIn, at-time, withEnd}
+use Rattle.tips.specs.Tips.{Tip, tipIn, at-time}
 use Rattle.look.specs.Ends.{endOf, Ends}
 use Rattle.tips.proofs.Put.{at-put}
+use Rattle.ending.specs.Finished.{finish}
 use Rattle.ending.proofs.Ended.{apart}
 
 -- a tip without a row runs
@@ -87,7 +88,7 @@ module _ {S : Listing} (acc : Accepted S) {ts : List Tip} {done : List Row} (e :
         stops = λ u. subst (λ (z : Time). z ≈ᵗ time row) (sym (up-here u)) (≈ᵗ-refl (time row));
       }
 
-  pub ends-next : Ends S (withEnd ts i (low (endOf (tipIn ts i)))) (row ∷ done)
+  pub ends-next : Ends S (finish ts i) (row ∷ done)
   ends-next =
       record {
         running =

@@ -24,7 +24,11 @@ pub record MayEnd (S : Listing) (i k : ℕ) (ts : List Tip) : Type 0 where
   pub endable : Endable (tipAt S i) (tipIn ts i .best)
   pub more : k < length (S .tracks)
 
--- its end is noted, in lowest terms, and its row is at place k
+-- the tip at i ends by its best cause; its time is kept in lowest terms, as its row has it (SHEETS 5.3)
+abbrev pub finish : List Tip → ℕ → List Tip
+finish ts i = withEnd ts i (low (endOf (tipIn ts i)))
+
+-- its end is noted, and its row is at place k
 pub record Finished (S : Listing) (i k : ℕ) (e : Ending) (ts : List Tip) (out : List ℕ) (ts′ : List Tip) (out′ : List ℕ) : Type 0 where
-  pub noted : ts′ ≡ withEnd ts i (low (endOf (tipIn ts i)))
+  pub noted : ts′ ≡ finish ts i
   pub written : out′ ≡ sets out (rowWidth * k) (rowBytes (rowAt (tipAt S i) (endOf (tipIn ts i)) e))

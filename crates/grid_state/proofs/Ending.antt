@@ -7,6 +7,7 @@ use native.Mathlib.Decide.{ℕ-discrete}
 use native.Mathlib.Omega.{arith}
 use lib.ListN.{length, take, length-set}
 use Rattle.fraction.specs.Time.{Time, _≤ᵗ_, _<ᵗ_, _≈ᵗ_}
+use Rattle.fraction.proofs.LowestTerms.{lowestOf-reduced, reduced-time}
 use Rattle.fraction.proofs.TimeOrder.{≤ᵗ-trans, <ᵗ→≤ᵗ, ≈ᵗ→≤ᵗ}
 use Rattle.sheet.specs.declared.Track.{Track}
 use Rattle.sheet.specs.declared.Wall.{Wall}
@@ -30,6 +31,7 @@ use Rattle.rule.specs.Meanwhile.{Formal, Live, Progress}
 use Rattle.rule.proofs.Turn.{beats-step}
 use Rattle.cause.specs.Cause.{tipAt, candOf, Fine}
 use Rattle.ending.specs.Ended.{nextRow}
+use Rattle.ending.specs.Finished.{finish}
 use Rattle.ending.proofs.Ended.{out-next, rows-next, progress-next, row-next}
 use Rattle.cells.specs.declared.Cell.{Cell}
 use Rattle.cells.specs.Grid.{InCell}
@@ -39,9 +41,10 @@ use Rattle.cells.specs.OneCell.{entry, exit}
 use Rattle.cells.specs.Entered.{Entered}
 use Rattle.cells.proofs.Entered.{entered-last}
 use Rattle.cells.proofs.Points.{shared, placed}
+use Rattle.cells.proofs.Total.{cells-same}
 use Rattle.event_queue.specs.Key.{NotAfter}
 use Rattle.pending_events.proofs.Order.{leads-cause}
-use Rattle.tips.specs.Tips.{Tip, tipIn, withEnd}
+use Rattle.tips.specs.Tips.{Tip, tipIn}
 use Rattle.look.specs.Ends.{endOf}
 use Rattle.pair_marks.specs.Marks.{Marked}
 use Rattle.grid_steps.specs.Steps.{InGrid, entryIn}
@@ -51,7 +54,7 @@ use Rattle.grid_state.specs.Meeting.{LiveCause}
 use Rattle.tips.proofs.Put.{at-put}
 use Rattle.grid_state.proofs.Queue.{none-out}
 use Rattle.grid_state.proofs.Been.{cell-near, been-in}
-use Rattle.ending.proofs.Ends.{runs-on, over, ends-next}
+use Rattle.ending.proofs.Ends.{runs-on, over, over-fine, ends-next}
 
 -- the event of the tip at r is the first of all, and it is its cause, which still counts
 module _ {S : Listing} (acc : Accepted S) {s : ℕ} (some-side : 0 < s) {done : List Row} {es : List (List Cell)} {k : ℕ} {ts : List Tip} {marks : List (List ℕ)}
@@ -151,6 +154,10 @@ module _ {S : Listing} (acc : Accepted S) {s : ℕ} (some-side : 0 < s) {done : 
   abbrev row : Row
   row = rowOf (tipAt S r) (cand r)
 
+  -- the time that is kept is that of the cause
+  reduced : endOf (tipIn ts r) ≈ᵗ time row
+  reduced = reduced-time t (lowestOf-reduced (t .num) (t .den) (t .den-pos))
+
   -- ---- the state with one row more
 
   abbrev new : Tip
@@ -159,17 +166,17 @@ module _ {S : Listing} (acc : Accepted S) {s : ℕ} (some-side : 0 < s) {done : 
   room : r < length ts
   room = omega (arith, runs .0, lk .long, acc .few-tracks)
 
-  pub looked-ended : Looked S (row ∷ done) s es n (withEnd ts r) marks
+  pub looked-ended : Looked S (row ∷ done) s es n (finish ts r) marks
   looked-ended =
       record {
         long = length-set ts r new ∙ lk .long;
         ends = ends-next acc (lk .ends) (runs .0) room;
-        fine = at-put (λ (j : ℕ) (x : Tip). j < n → Fine (x .best)) ts r new room (lk .fine r) (λ j d. lk .fine j);
+        fine = at-put (λ (j : ℕ) (x : Tip). j < n → Fine (x .best)) ts r new room (λ h. over-fine (tipIn ts r) (lk .fine r h)) (λ j d. lk .fine j);
         best =
             at-put (λ (j : ℕ) (x : Tip). (j < n) × (x .ended ≡ 0) → Best S (row ∷ done) s (cellsAt es j) marks j (x .best)) ts r new room (λ u. absurd (omega (arith, u .1)))
             (λ j d u. record { walls = lk .best j u .walls; at-tips = λ m h y z. beats-step (tipAt S r) row acc (on j (u .0)) (on m h) z refl (record { on-sheet = on r (runs .0); fresh = lk .ends .running r (runs .0) (runs .1) }) (lk .best j u .at-tips m h y z) });
         base = at-put (λ (j : ℕ) (x : Tip). (j < n) × (x .ended ≡ 0) → Base S s (cellsAt es j) (tipAt S j) (x .base)) ts r new room (λ u. absurd (omega (arith, u .1))) (λ j d. lk .base j);
-        gone = at-put (λ (j : ℕ) (x : Tip). j < n → (x .ended ≡ 0 → ⊥) → CellsOf (tipAt S j) (endOf x) s (cellsAt es j)) ts r new room (λ h x. ending-cells) (λ j d. lk .gone j);
+        gone = at-put (λ (j : ℕ) (x : Tip). j < n → (x .ended ≡ 0 → ⊥) → CellsOf (tipAt S j) (endOf x) s (cellsAt es j)) ts r new room (λ h x. cells-same reduced ending-cells) (λ j d. lk .gone j);
       }
 
   -- what still counts counted before
@@ -183,7 +190,7 @@ module _ {S : Listing} (acc : Accepted S) {s : ℕ} (some-side : 0 < s) {done : 
   ahead-ended : (j : ℕ) → j < n → {c : Cell} → Ahead S done s (tipAt S j) c → Ahead S (row ∷ done) s (tipAt S j) c
   ahead-ended j h o = record { of-tips = λ m i d u v e l. o .of-tips m i d u v e (counted-before (tipAt S j) (tipAt S m) u v (on j h) (on m i) d e l); of-walls = o .of-walls }
 
-  pub placed-ended : Placed S (row ∷ done) s es n 256 (withEnd ts r)
+  pub placed-ended : Placed S (row ∷ done) s es n 256 (finish ts r)
   placed-ended =
       record {
         in-grid = at-put (λ (j : ℕ) (x : Tip). j < n → j ≢ 256 → InGrid s (x .cell)) ts r new room (pl .in-grid r) (λ j d. pl .in-grid j);

@@ -114,5 +114,5 @@ module _ {S : Listing} (acc : Accepted S) {done : List Row} (known : (d : Row) �
       let (n, e) = numbers in
       entered-at (point-by (st .good .fresh) (before-past (before-end m ahead (st .good .soon)))) (exit a s k) (st .just) (st .since) (key.time (pendingKey a s k c)) n (omega (arith, e))
     where
-      numbers : (pendingKey a s k c .num ≡ exit a s k .num) × (pendingKey a s k c .den ≡ exit a s k .den)
-      numbers = pending-by a s k c (λ x. (x .late ≡ 1 → ⊥) → (x .num ≡ exit a s k .num) × (x .den ≡ exit a s k .den)) (λ e h. (refl, refl)) (λ e h. absurd (h refl)) l
+      numbers : (pendingKey a s k c .at .num ≡ exit a s k .num) × (pendingKey a s k c .at .den ≡ exit a s k .den)
+      numbers = pending-by a s k c (λ x. (x .late ≡ 1 → ⊥) → (x .at .num ≡ exit a s k .num) × (x .at .den ≡ exit a s k .den)) (λ e h. (refl, refl)) (λ e h. absurd (h refl)) l

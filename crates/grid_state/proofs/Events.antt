@@ -7,13 +7,13 @@ use mathlib.Core.Path.{_≡_, refl, sym, ap, _∙_, subst}
 use Prim.Native.Nat.{ℕ, _+_, _≤_, _<_}
 use native.Mathlib.Omega.{arith}
 use lib.ListN.{length, getD, set}
-use Rattle.fraction.specs.Time.{fraction}
+use Rattle.fraction.specs.Time.{asTime}
 use Rattle.fraction.proofs.TimeOrder.{≤ᵗ-refl}
 use Rattle.sheet.specs.HandedIn.{noTrack}
 use Rattle.sheet.specs.Listing.{Listing, _∈_}
 use Rattle.sheet.proofs.Lists.{mem-at}
 use Rattle.rule.specs.declared.Row.{Row}
-use Rattle.rule.specs.Causes.{rowOf}
+use Rattle.rule.specs.Causes.{low, rowOf}
 use Rattle.rule.specs.EdgeTime.{rim}
 use Rattle.rule.specs.Rows.{timeOf}
 use Rattle.rule.specs.Selection.{rollOf}
@@ -22,6 +22,7 @@ use Rattle.cause.specs.Cause.{tipAt, candOf, Stands}
 use Rattle.cause.specs.Looked.{FirstOfTracks}
 use Rattle.cause.proofs.Looking.{walls-live}
 use Rattle.ending.specs.Ended.{Endable, nextRow}
+use Rattle.ending.specs.Finished.{finish}
 use Rattle.cells.specs.declared.Cell.{Cell}
 use Rattle.cells.specs.EnteredAt.{EnteredAt}
 use Rattle.cells.specs.Grid.{side}
@@ -36,7 +37,8 @@ use Rattle.event_queue.specs.declared.Key.{Key}
 use Rattle.event_queue.specs.Key.{time}
 use Rattle.event_queue.specs.Queue.{Slots, First, Free}
 use Rattle.pending_events.specs.Pending.{eventOf}
-use Rattle.tips.specs.Tips.{Tip, tipIn, withEnd}
+use Rattle.tips.specs.Tips.{Tip, tipIn}
+use Rattle.look.specs.Ends.{endOf}
 use Rattle.look.specs.Counts.{Counts, no-track, MayTell, stale}
 use Rattle.look.specs.Tracks.{MayLookOn, LookedAgain}
 use Rattle.pair_marks.specs.Marks.{Marked}
@@ -224,7 +226,7 @@ module _ {S : Listing} {g k : ℕ} {w : Sweep} (go : Going S g k w) {r : ℕ} {e
     new = record { best = a .cause; base = tipIn ts r .base; ended = tipIn ts r .ended; cell = tipIn ts r .cell }
 
     base-live : LiveCause S done (tipIn ts r .base)
-    base-live = let c = tipIn ts r .base in walls-live S done (fraction (c .u) (c .ud)) (fraction (c .s) (c .sd)) (c .class) (c .who) (st .looked .base r event-runs .no-track)
+    base-live = let c = tipIn ts r .base in walls-live S done (asTime (c .at)) (asTime (c .there)) (c .class) (c .who) (st .looked .base r event-runs .no-track)
 
     found : FirstOfTracks S done (tipAt S r) (Marked (w .crowd .marks) r) (tipIn ts r .base) (a .cause)
     found = a .looked .looked done (st .looked .ends)
@@ -338,7 +340,7 @@ module _ {S : Listing} {g k : ℕ} {w : Sweep} (go : Going S g k w) {r : ℕ} {e
         }
 
     module _ {q : Slots} (z : q ≡ set (w .crowd .pending) r none) where
-      pub ended-state : StateOf S (side g) (length (S .tracks)) 256 (rowOf (tipAt S r) (candOf S (tipIn (w .crowd .tips) r .best)) ∷ go .done) (go .es) (altered w (withEnd (w .crowd .tips) r) q)
+      pub ended-state : StateOf S (side g) (length (S .tracks)) 256 (rowOf (tipAt S r) (candOf S (tipIn (w .crowd .tips) r .best)) ∷ go .done) (go .es) (altered w (finish (w .crowd .tips) r) q)
       ended-state =
           record {
             accepted = st .accepted;
@@ -349,11 +351,11 @@ module _ {S : Listing} {g k : ℕ} {w : Sweep} (go : Going S g k w) {r : ℕ} {e
             marked = st .marked;
             placed = placed-ended (st .accepted) (figure-in (go .figure) .0) (st .looked) (st .marked) (st .placed) (go .rows) r event-runs late (left .least) live;
             listed = st .listed;
-            queued = subst (Queued S s n 256 (withEnd ts r)) (sym z) (queue-ended (left .queued) few room);
+            queued = subst (Queued S s n 256 (finish ts r)) (sym z) (queue-ended (left .queued) (low (endOf (tipIn ts r))) few room);
           }
 
-      pub going-ended : Onward S g k w (k + 1) (altered w (withEnd (w .crowd .tips) r) q)
+      pub going-ended : Onward S g k w (k + 1) (altered w (finish (w .crowd .tips) r) q)
       going-ended = (
         record { done = row ∷ done; es = es; figure = go .figure; state = ended-state; rows = ended-rows },
-        less-rows n k w (altered w (withEnd ts r) q) few ended-room refl,
+        less-rows n k w (altered w (finish ts r) q) few ended-room refl,
       )

@@ -8,6 +8,7 @@ use native.Mathlib.Decide.{ℕ-discrete, decLt}
 use native.Mathlib.Omega.{arith}
 use lib.ListN.{length, set, length-set, List·getD-eq-default}
 use lib.Seq.{getD-set-same, getD-set-other}
+use Rattle.fraction.specs.declared.Fraction.{Fraction}
 use Rattle.sheet.specs.Listing.{Listing}
 use Rattle.cause.specs.Cause.{tipAt}
 use Rattle.event_queue.specs.Key.{NotAfter}
@@ -19,7 +20,7 @@ use Rattle.event_queue.proofs.Bags.{pick}
 use Rattle.event_queue.proofs.Callers.{slot-same, slot-other}
 use Rattle.event_queue.proofs.Slots.{none≢some}
 use Rattle.pending_events.specs.Pending.{pendingEntry}
-use Rattle.tips.specs.Tips.{Tip, tipIn, noTip, withEnd}
+use Rattle.tips.specs.Tips.{Tip, tipIn, noTip, at-time, withEnd}
 use Rattle.grid_steps.specs.Steps.{entryIn}
 use Rattle.grid_state.specs.State.{Runs, Queued}
 
@@ -67,8 +68,8 @@ module _ {S : Listing} {side b x : ℕ} {ts : List Tip} {s : Slots} (q : Queued 
   abbrev new : ℕ → Tip → Option Entry
   new j t = some (entryIn S side (set ts j t) j)
 
-  abbrev gone : Tip
-  gone = record { best = tipIn ts x .best; base = tipIn ts x .base; ended = 1; cell = tipIn ts x .cell }
+  abbrev gone : Fraction → Tip
+  gone t = record { best = at-time (tipIn ts x .best) t; base = tipIn ts x .base; ended = 1; cell = tipIn ts x .cell }
 
   -- ---- the tip at x is on its way
 
@@ -97,15 +98,15 @@ module _ {S : Listing} {side b x : ℕ} {ts : List Tip} {s : Slots} (q : Queued 
             slot-other s x (new x t) j (λ z. out (subst (Runs b ts) (sym z) r)) ∙ q .idle j (λ u. absurd (out u));
       }
 
-  pub queue-ended : b ≤ 256 → x < length ts → Queued S side b 256 (withEnd ts x) s
-  queue-ended few h =
+  pub queue-ended : (t : Fraction) → b ≤ 256 → x < length ts → Queued S side b 256 (withEnd ts x t) s
+  queue-ended t few h =
       record {
         long = q .long;
         due =
             λ j u _.
-            let n : j ≢ x = λ z. let here = ap (λ (v : Tip). v .ended) (tip-same ts x gone h) in let zero = ap (λ (k : ℕ). tipIn (withEnd ts x) k .ended) z in omega (arith, u .1) in
-            q .due j (runs-other ts x gone b j n u) n ∙ entry-other ts x gone S side j n;
-        idle = λ j f. q .idle j (λ u. pick (ℕ-discrete j x) (λ z. z) (λ n. absurd (none-out few j (u .0) (f (other-runs ts x gone b j n u)))));
+            let n : j ≢ x = λ z. let here = ap (λ (v : Tip). v .ended) (tip-same ts x (gone t) h) in let zero = ap (λ (k : ℕ). tipIn (withEnd ts x t) k .ended) z in omega (arith, u .1) in
+            q .due j (runs-other ts x (gone t) b j n u) n ∙ entry-other ts x (gone t) S side j n;
+        idle = λ j f. q .idle j (λ u. pick (ℕ-discrete j x) (λ z. z) (λ n. absurd (none-out few j (u .0) (f (other-runs ts x (gone t) b j n u)))));
       }
 
   -- ---- another that runs, at j, may change; its event comes anew

@@ -71,7 +71,7 @@ pub look-first : {S : Listing} → Accepted S → {done : List Row} {side : ℕ}
     → (j q : ℕ) → j < length (S .tracks) → q < length (S .tracks) → Runs b ts j → {ts′ : List Tip} → (o : Offered S j q ts ts′)
     → FirstOfTracks S done (tipAt S j) (λ (m : ℕ). m ≡ q) (tipIn ts j .best) (o .cause)
 look-first {S} acc {done} {ts = ts} lk j q hj hq r o =
-    tip-looked S acc (tipAt S j) (mem-at noTrack (S .tracks) j hj) q hq (tipIn ts q .ended) (tipIn ts q .best .u) (tipIn ts q .best .ud) done
+    tip-looked S acc (tipAt S j) (mem-at noTrack (S .tracks) j hj) q hq (tipIn ts q .ended) (tipIn ts q .best .at) done
     (lk .ends .running q hq) (lk .ends .ended q hq) (lk .best j r .walls .stands) (o .offered)
 
 -- ---- one mark more

@@ -32,8 +32,8 @@ module _ {S : Listing} (acc : Accepted S) {done : List Row} {side : ℕ} {es : L
       record {
         tip-in = omega (arith, r .0, acc .few-tracks);
         fine = lk .fine j (r .0);
-        known = λ z. omega (arith, stands .known z, acc .few-tracks);
-        times = λ z x. lk .fine (tipIn ts j .best .who) (stands .known z);
+        known = λ _ z. omega (arith, stands .known z, acc .few-tracks);
+        times = λ _ z x. lk .fine (tipIn ts j .best .who) (stands .known z);
       }
 
   pub of-counts : Counts ts (tipIn ts j .best) → LiveCause S done (tipIn ts j .best)

@@ -8,7 +8,7 @@ use native.Mathlib.Decide.{ℕ-discrete}
 use native.Mathlib.Omega.{arith}
 use lib.ListN.{length, getD, set, length-set}
 use lib.Seq.{getD-set-other}
-use Rattle.fraction.specs.Time.{fraction}
+use Rattle.fraction.specs.Time.{asTime}
 use Rattle.sheet.specs.HandedIn.{noTrack}
 use Rattle.sheet.specs.Listing.{Listing, _∈_}
 use Rattle.sheet.proofs.Lists.{mem-at}
@@ -142,7 +142,7 @@ module _ {S : Listing} {side b i : ℕ} {k : Cell} {done : List Row} {es : List 
     wall-live (inl (e, x)) z = subst (LiveCause S done) (sym e) z
     wall-live (inr (e, x)) z =
         subst (LiveCause S done) (sym e)
-        (walls-live S done (fraction (h .base .u) (h .base .ud)) (fraction (h .base .s) (h .base .sd)) (h .base .class) (h .base .who) (h .looked .no-track (y .state .looked .base i (y .runs) .no-track)))
+        (walls-live S done (asTime (h .base .at)) (asTime (h .base .there)) (h .base .class) (h .base .who) (h .looked .no-track (y .state .looked .base i (y .runs) .no-track)))
 
     seen-later : Later S b done (w .crowd) crowd-seen
     seen-later =

@@ -1,7 +1,7 @@
 -- The look at the tracks, turn by turn: what is known after the first k of them.
 use mathlib.Core.List.{List}
 use mathlib.Core.Logic.{_⊎_, inl, inr}
-use mathlib.Core.Path.{_≡_, sym, subst}
+use mathlib.Core.Path.{_≡_, refl, sym, subst}
 use Prim.Native.Nat.{ℕ, _+_, _<_}
 use native.Mathlib.Decide.{ℕ-discrete}
 use native.Mathlib.Omega.{arith}
@@ -19,7 +19,7 @@ use Rattle.cause.specs.declared.Cause.{Cause}
 use Rattle.cause.specs.Cause.{tipAt, Fine, Stands}
 use Rattle.cause.specs.Offer.{Reached, Taken, TipOffered}
 use Rattle.cause.specs.Looked.{FirstOfTracks}
-use Rattle.cause.proofs.Looking.{tip-looked, then, fewer, none, tip-fine}
+use Rattle.cause.proofs.Looking.{tip-looked, offered-as, then, fewer, none, tip-fine}
 use Rattle.tips.specs.Tips.{Tip, tipIn}
 use Rattle.look.specs.Ends.{Ends}
 use Rattle.look.specs.Tracks.{Flagged, MayLookOn, TracksLooked}
@@ -49,12 +49,7 @@ module _ (S : Listing) (acc : Accepted S) (i : ℕ) (in-i : i < length (S .track
     -- from what was read
     pub offers : (a b : Track) (n : ℕ) (end : Fraction) (d r : Cause) (t : Touch) → a ≡ tipAt S i → b ≡ tipAt S k → n ≡ tipIn ts k .ended → end ≡ tipIn ts k .best .at
         → Reached a b n end t → Taken b k t d r → Offers S i k ts d r
-    offers a b n end d r t p q m e x y =
-        let o : TipOffered a b k n end d r = record { touch = t; reached = x; taken = y } in
-        let o₁ : TipOffered (tipAt S i) b k n end d r = subst (λ (z : Track). TipOffered z b k n end d r) p o in
-        let o₂ : TipOffered (tipAt S i) (tipAt S k) k n end d r = subst (λ (z : Track). TipOffered (tipAt S i) z k n end d r) q o₁ in
-        let o₃ : TipOffered (tipAt S i) (tipAt S k) k (tipIn ts k .ended) end d r = subst (λ (z : ℕ). TipOffered (tipAt S i) (tipAt S k) k z end d r) m o₂ in
-        subst (λ (z : Fraction). TipOffered (tipAt S i) (tipAt S k) k (tipIn ts k .ended) z d r) e o₃
+    offers a b n end d r t p q m e x y = offered-as p q m e refl (record { touch = t; reached = x; taken = y })
 
     pub track-turn : {c d r : Cause} → Offers S i k ts d r → TracksUpTo S i ts known k c d → TracksUpTo S i ts known (k + 1) c r
     track-turn {c} {d} {r} o u =

@@ -5,6 +5,7 @@ use Prim.Native.Nat.{ℕ, zero, suc, _<_, _≤_}
 use lib.Dec.{eqb}
 use borrow.Author.Tests.{eq-eqb, ne-eqb}
 use native.Mathlib.Omega.{arith}
+use Rattle.fraction.specs.Sizes.{Timely}
 use Rattle.sheet.specs.declared.Track.{Track}
 use Rattle.cause.specs.declared.Cause.{Cause}
 use Rattle.cause.specs.Cause.{Fine}
@@ -19,7 +20,6 @@ use Rattle.event_queue.specs.declared.Key.{Key}
 use Rattle.event_queue.specs.declared.Entry.{Entry}
 use Rattle.event_queue.specs.declared.Event.{Event}
 use Rattle.event_queue.specs.declared.Event.the-variants as event
-use Rattle.event_queue.specs.Key.{KeyOk}
 use Rattle.event_queue.specs.Late.{entryLate}
 use Rattle.pending_events.specs.Pending.{entryKey, causeKey, entersFirst, pendingKey, pendingEntry, reachedOf, eventOf}
 use Rattle.pending_events.proofs.Order.{enters-den}
@@ -27,28 +27,26 @@ use Rattle.pending_events.proofs.Order.{enters-den}
 -- ---- the key
 
 module _ (a : Track) (s : ℕ) (k : Cell) (c : Cause) (f : Fine c) {o : Onset} (g : Gives (onsetOf (exit a s k)) o) where
-  test-of : {b b′ : Bool} → b ≡ priorOf o (onset (c .u) (c .ud) 1) → b ≡ b′ → entersFirst a s k c ≡ b′
+  test-of : {b b′ : Bool} → b ≡ priorOf o (onset (c .at) 1) → b ≡ b′ → entersFirst a s k c ≡ b′
   unfolding entersFirst
-  test-of e w = ap (λ (z : Onset). priorOf z (onset (c .u) (c .ud) 1)) (sym (g .is)) ∙ sym e ∙ w
+  test-of e w = ap (λ (z : Onset). priorOf z (onset (c .at) 1)) (sym (g .is)) ∙ sym e ∙ w
 
-  pub key-entry : {b : Bool} {late : ℕ} → b ≡ priorOf o (onset (c .u) (c .ud) 1) → b ≡ true → late ≡ entryLate (eqb (o .late) 1) →
-      (_≡_ {A = Key} (record { num = o .num; den = o .den; late = late; id = a .id }) (pendingKey a s k c)) × KeyOk (record { num = o .num; den = o .den; late = late; id = a .id })
+  pub key-entry : {b : Bool} {late : ℕ} → b ≡ priorOf o (onset (c .at) 1) → b ≡ true → late ≡ entryLate (eqb (o .late) 1) →
+      (_≡_ {A = Key} (record { at = o .at; late = late; id = a .id }) (pendingKey a s k c)) × Timely (o .at)
   unfolding pendingKey
   key-entry e w l =
       let t = test-of e w in
-      let p = subst (λ (z : Onset). 0 < z .den) (sym (g .is)) (enters-den a s k c f t) in
+      let p = subst (λ (z : Onset). 0 < z .at .den) (sym (g .is)) (enters-den a s k c f t) in
       let q = g .ready in (
-        (λ i. record { num = o .num; den = o .den; late = l i; id = a .id }) ∙ ap (λ (z : Onset). entryKey z (a .id)) (g .is) ∙ rw t refl,
-        record { num-in = omega arith; den-in = omega arith; den-pos = p },
+        (λ i. record { at = o .at; late = l i; id = a .id }) ∙ ap (λ (z : Onset). entryKey z (a .id)) (g .is) ∙ rw t refl,
+        record { num-in = q .num-in; den-in = q .den-in; den-pos = p },
       )
 
-  pub key-cause : {b : Bool} → b ≡ priorOf o (onset (c .u) (c .ud) 1) → b ≡ false →
-      (_≡_ {A = Key} (causeKey c (a .id)) (pendingKey a s k c)) × KeyOk (causeKey c (a .id))
+  pub key-cause : {b : Bool} → b ≡ priorOf o (onset (c .at) 1) → b ≡ false →
+      (_≡_ {A = Key} (causeKey c (a .id)) (pendingKey a s k c)) × Timely (c .at)
   unfolding pendingKey
   key-cause e w =
-      let t = test-of e w in
-      let q = f .at in
-      (rw t refl, record { num-in = omega arith; den-in = omega arith; den-pos = q .den-pos })
+      let t = test-of e w in (rw t refl, f .at)
 
 -- ---- the event
 

@@ -5,13 +5,14 @@ use mathlib.Core.Logic.{_⊎_, inl, inr}
 use mathlib.Core.Bool.{Bool, true, false, cond}
 use Prim.Native.Nat.{ℕ, zero, suc, _+_, _*_, _<_, _≤_}
 use lib.Dec.{eqb}
-use borrow.Author.Tests.{ltb-true, ltb-false, lt-ltb, le-ltb}
+use borrow.Author.Tests.{ltb-true, ltb-false}
 use native.Mathlib.Omega.{arith}
 use native.Mathlib.Nat.{le-refl, eq-zero-or-pos}
 use native.Mathlib.Decide.{decLt}
+use Rattle.fraction.specs.declared.Fraction.{Fraction}
 use Rattle.fraction.specs.Time.{_≤ᵗ_, _<ᵗ_, _≈ᵗ_, fraction}
 use Rattle.fraction.specs.Order.{≈ᵗ-of, ≤ᵗ-or-<ᵗ}
-use Rattle.fraction.proofs.TimeOrder.{fraction-before, fraction-not-before}
+use Rattle.fraction.proofs.TimeOrder.{fraction-lt, fraction-eq}
 use Rattle.sheet.specs.declared.Track.{Track}
 use Rattle.cause.specs.declared.Cause.{Cause}
 use Rattle.cause.specs.Cause.{Fine}
@@ -28,36 +29,28 @@ use Rattle.event_queue.specs.Late.{entryLate, lateOf}
 use Rattle.event_queue.proofs.KeyOrder.{not-after-refl, not-after-trans, before-not-after, not-both}
 use Rattle.pending_events.specs.Pending.{entryKey, causeTime, causeKey, entersFirst, pendingKey, reachedOf, eventOf}
 
--- ---- two times as the code holds them
+-- ---- an entry at t against a cause: the test by products is the order of the keys
 
-module _ (n d m e : ℕ) (p : 0 < d) (q : 0 < e) where
-  time-lt : n * e < m * d → fraction n d <ᵗ fraction m e
-  time-lt h = fraction-before n d m e p q (lt-ltb (n * e) (m * d) h)
+module _ (t : Fraction) (i j : ℕ) (c : Cause) (p : 0 < t .den) (q : 0 < c .at .den) where
+  abbrev u : Fraction
+  u = c .at
 
-  time-eq : n * e ≡ m * d → fraction n d ≈ᵗ fraction m e
-  time-eq h =
-      ≈ᵗ-of (fraction-not-before m e n d q p (le-ltb (m * d) (n * e) (omega arith)))
-      (fraction-not-before n d m e p q (le-ltb (n * e) (m * d) (omega arith)))
-
--- ---- an entry at n / d against a cause: the test by products is the order of the keys
-
-module _ (n d i j : ℕ) (c : Cause) (p : 0 < d) (q : 0 < c .ud) where
-  entry-lt : (o : ℕ) → o ≤ 1 → 2 * (n * c .ud) + o < 2 * (c .u * d) + 1 → Before (entryKey (onset n d o) i) (causeKey c j)
-  entry-lt zero l h = go (decLt (n * c .ud) (c .u * d))
+  entry-lt : (o : ℕ) → o ≤ 1 → 2 * (t .num * u .den) + o < 2 * (u .num * t .den) + 1 → Before (entryKey (onset t o) i) (causeKey c j)
+  entry-lt zero l h = go (decLt (t .num * u .den) (u .num * t .den))
     where
-      go : Dec (n * c .ud < c .u * d) → Before (entryKey (onset n d 0) i) (causeKey c j)
-      go (yes k) = sooner (time-lt n d (c .u) (c .ud) p q k)
-      go (no k) = milder (time-eq n d (c .u) (c .ud) p q (omega arith)) (omega arith)
-  entry-lt (suc zero) l h = sooner (time-lt n d (c .u) (c .ud) p q (omega arith))
+      go : Dec (t .num * u .den < u .num * t .den) → Before (entryKey (onset t 0) i) (causeKey c j)
+      go (yes k) = sooner (fraction-lt (t .num) (t .den) (u .num) (u .den) p q k)
+      go (no k) = milder (fraction-eq (t .num) (t .den) (u .num) (u .den) p q (omega arith)) (omega arith)
+  entry-lt (suc zero) l h = sooner (fraction-lt (t .num) (t .den) (u .num) (u .den) p q (omega arith))
   entry-lt (suc (suc o)) l h = absurd (omega arith)
 
-  cause-lt : (o : ℕ) → o ≤ 1 → 2 * (c .u * d) + 1 ≤ 2 * (n * c .ud) + o → Before (causeKey c j) (entryKey (onset n d o) i)
-  cause-lt zero l h = sooner (time-lt (c .u) (c .ud) n d q p (omega arith))
-  cause-lt (suc zero) l h = go (decLt (c .u * d) (n * c .ud))
+  cause-lt : (o : ℕ) → o ≤ 1 → 2 * (u .num * t .den) + 1 ≤ 2 * (t .num * u .den) + o → Before (causeKey c j) (entryKey (onset t o) i)
+  cause-lt zero l h = sooner (fraction-lt (u .num) (u .den) (t .num) (t .den) q p (omega arith))
+  cause-lt (suc zero) l h = go (decLt (u .num * t .den) (t .num * u .den))
     where
-      go : Dec (c .u * d < n * c .ud) → Before (causeKey c j) (entryKey (onset n d 1) i)
-      go (yes k) = sooner (time-lt (c .u) (c .ud) n d q p k)
-      go (no k) = milder (time-eq (c .u) (c .ud) n d q p (omega arith)) (omega arith)
+      go : Dec (u .num * t .den < t .num * u .den) → Before (causeKey c j) (entryKey (onset t 1) i)
+      go (yes k) = sooner (fraction-lt (u .num) (u .den) (t .num) (t .den) q p k)
+      go (no k) = milder (fraction-eq (u .num) (u .den) (t .num) (t .den) q p (omega arith)) (omega arith)
   cause-lt (suc (suc o)) l h = absurd (omega arith)
 
 -- ---- the test of a tip's next entry against a cause, its own or another's
@@ -66,7 +59,7 @@ module _ (a : Track) (s : ℕ) (k : Cell) (c : Cause) (f : Fine c) where
   test-is : entersFirst a s k c ≡ before (exit a s k) (past (causeTime c))
   unfolding entersFirst
   test-is =
-      ap (λ z. priorOf (onsetOf (exit a s k)) z) (past-is (c .u) (c .ud) (f .at .den-pos)) ∙
+      ap (λ z. priorOf (onsetOf (exit a s k)) z) (past-is (c .at) (f .at .den-pos)) ∙
       sym (is-before (exit a s k) (past (causeTime c)))
 
   pub enters-yes : entersFirst a s k c ≡ true → exit a s k <ᶜ past (causeTime c)
@@ -83,13 +76,13 @@ module _ (a : Track) (s : ℕ) (k : Cell) (c : Cause) (f : Fine c) where
   unfolding entersFirst priorOf
   entry-before i j e =
       let x = exit a s k in
-      entry-lt (x .num) (x .den) i j c (enters-den e) (f .at .den-pos) (x .late) (x .late-bit) (ltb-true _ _ e)
+      entry-lt (onsetOf x .at) i j c (enters-den e) (f .at .den-pos) (x .late) (x .late-bit) (ltb-true _ _ e)
 
   pub cause-before : (i j : ℕ) → entersFirst a s k c ≡ false → 0 < exit a s k .den → Before (causeKey c j) (entryKey (onsetOf (exit a s k)) i)
   unfolding entersFirst priorOf
   cause-before i j e p =
       let x = exit a s k in
-      cause-lt (x .num) (x .den) i j c p (f .at .den-pos) (x .late) (x .late-bit) (ltb-false _ _ e)
+      cause-lt (onsetOf x .at) i j c p (f .at .den-pos) (x .late) (x .late-bit) (ltb-false _ _ e)
 
 -- ---- one tip
 

@@ -2,7 +2,7 @@
 use mathlib.Core.Bool.{Bool, cond}
 use Prim.Native.Nat.{ℕ, zero, suc}
 use lib.Dec.{eqb}
-use Rattle.fraction.specs.Time.{Time, fraction}
+use Rattle.fraction.specs.Time.{Time, asTime}
 use Rattle.sheet.specs.declared.Track.{Track}
 use Rattle.cause.specs.declared.Cause.{Cause}
 use Rattle.cells.specs.declared.Cell.{Cell}
@@ -20,18 +20,18 @@ use Rattle.event_queue.specs.Late.{entryLate}
 
 -- the entry of a cell at o by the tip of this id
 abbrev pub entryKey : Onset → ℕ → Key
-entryKey o i = record { num = o .num; den = o .den; late = entryLate (eqb (o .late) 1); id = i }
+entryKey o i = record { at = o .at; late = entryLate (eqb (o .late) 1); id = i }
 
 abbrev pub causeTime : Cause → Time
-causeTime c = fraction (c .u) (c .ud)
+causeTime c = asTime (c .at)
 
 -- what ends the tip
 abbrev pub causeKey : Cause → ℕ → Key
-causeKey c i = record { num = c .u; den = c .ud; late = 1; id = i }
+causeKey c i = record { at = c .at; late = 1; id = i }
 
 -- tip a leaves cell k of side s, for the next one, by the time of its cause c: before that time, or at it if the entry is closed. An entry at 1 / 0, never, does not
 unfoldable pub entersFirst : Track → ℕ → Cell → Cause → Bool
-entersFirst a s k c = priorOf (onsetOf (exit a s k)) (onset (c .u) (c .ud) 1)
+entersFirst a s k c = priorOf (onsetOf (exit a s k)) (onset (c .at) 1)
 
 unfoldable pub pendingKey : Track → ℕ → Cell → Cause → Key
 pendingKey a s k c = cond (entersFirst a s k c) (entryKey (onsetOf (exit a s k)) (a .id)) (causeKey c (a .id))

@@ -5,7 +5,7 @@ ghost use Rattle.sheet.specs.Accepted.{TrackOk};
 ghost use Rattle.cause.specs.Cause.{Fine};
 ghost use Rattle.cells.specs.Walk.{next};
 ghost use Rattle.cell_walk.specs.Onsets.{Near};
-ghost use Rattle.event_queue.specs.Key.{KeyOk};
+ghost use Rattle.fraction.specs.Sizes.{Timely};
 ghost use Rattle.pending_events.specs.Pending.{pendingKey, pendingEntry, reachedOf, eventOf};
 use cause::Cause;
 use cell_walk::Onset;
@@ -18,29 +18,19 @@ use sheet::Track;
 // When the pending event of tip a leaves the queue, while a is in cell k of side s and c is the first cause known to end it.
 fn key_of(a: Track, s: u64, k: Cell, c: Cause) -> Key
     requires { ⌜ TrackOk a × (s ≤ 4096) × Near k × Fine c ⌝ }
-    ensures { λ r. ⌜ (r ≡ pendingKey a s k c) × KeyOk r ⌝ }
+    ensures { λ r. ⌜ (r ≡ pendingKey a s k c) × Timely (r .at) ⌝ }
 {
     let id = a.id as u64;
-    let num = c.u;
-    let den = c.ud;
+    let at = c.at;
     let entry = cell_walk::cell_exit(a, s, k);
-    let end = Onset { num, den, late: 1 };
+    let end = Onset { at, late: 1 };
     if cell_walk::prior(entry, end) {
         // Which cell it is does not matter to the order.
         let late = event_queue::late_of(Event::Cell(0, 0), entry.late == 1);
-        return Key {
-            num: entry.num,
-            den: entry.den,
-            late,
-            id,
-        };
+        let at = entry.at;
+        return Key { at, late, id };
     }
-    Key {
-        num,
-        den,
-        late: 1,
-        id,
-    }
+    Key { at, late: 1, id }
 }
 
 // What a cause of this class and partner is as an event.
@@ -73,7 +63,7 @@ fn event_of(a: Track, s: u64, k: Cell, c: Cause, late: u64) -> Event
 // The pending event of tip a, which is in cell k of side s and which c is the first cause known to end.
 pub fn entry_of(a: Track, s: u64, k: Cell, c: Cause) -> Entry
     requires { ⌜ TrackOk a × (s ≤ 4096) × (k .column < 32) × (k .row < 32) × Fine c × (c .id ≤ 65535) ⌝ }
-    ensures { λ r. ⌜ (r ≡ pendingEntry a s k c) × KeyOk (r .key) ⌝ }
+    ensures { λ r. ⌜ (r ≡ pendingEntry a s k c) × Timely (r .key .at) ⌝ }
 {
     let key = key_of(a, s, k, c);
     let event = event_of(a, s, k, c, key.late);

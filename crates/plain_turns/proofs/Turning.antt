@@ -15,7 +15,7 @@ use Rattle.sheet.specs.declared.Wall.{Wall}
 use Rattle.sheet.proofs.Lists.{mem-at, at-mem}
 use Rattle.rule.specs.declared.Row.{Row}
 use Rattle.rule.specs.declared.Ending.{Ending}
-use Rattle.rule.specs.Causes.{by-side, Cand, Below, low, rowOf}
+use Rattle.rule.specs.Causes.{by-side, Cand, Below, rowOf}
 use Rattle.rule.specs.Contact.{when}
 use Rattle.rule.specs.RowBytes.{rowBytes, rowWidth}
 use Rattle.rule.specs.Selection.{rollOf}
@@ -28,11 +28,10 @@ use Rattle.rule.proofs.Turn.{progress-more, beats-step}
 use Rattle.row.specs.Written.{Written}
 use Rattle.cause.specs.declared.Cause.{Cause}
 use Rattle.cause.specs.Cause.{tipAt, candOf, Fine, Stands}
-use Rattle.tips.specs.Tips.{Tip, tipIn, withEnd}
+use Rattle.tips.specs.Tips.{Tip, tipIn}
 use Rattle.tips.proofs.Put.{at-put}
-use Rattle.look.specs.Ends.{endOf}
 use Rattle.ending.specs.Ended.{EndingOf, nextRow}
-use Rattle.ending.specs.Finished.{MayEnd, Finished}
+use Rattle.ending.specs.Finished.{MayEnd, finish, Finished}
 use Rattle.ending.proofs.Ended.{row-next, out-next, progress-next}
 use Rattle.ending.proofs.Endings.{row-is}
 use Rattle.ending.proofs.Rolling.{written-next}
@@ -130,7 +129,7 @@ module _ {S : Listing} (acc : Accepted S) {ts new : List Tip} {k i : ℕ} (st : 
               at-tips = λ m g x. beats-step (tipAt S i) row acc (on j h) (on m g) x refl (record { on-sheet = on i (p .place); fresh = fresh }) (q .at-tips m g x);
             }
 
-        state : State S (k + 1) (withEnd new i (low (endOf (tipIn new i))))
+        state : State S (k + 1) (finish new i)
         state =
             let e = ends-next acc (kept .ends) (p .place) room in
             record {

@@ -18,13 +18,13 @@ late-of-requires c κs = search needs
 
 returns : tie.Need-returns
 returns c =
-    let o = c .before .before .before .before .before .before in
-    let p = c .before .before .before in
-    key-entry (o .args .a) (o .args .s) (o .args .k) (o .args .c) (o .pre .3) (p .before .cell-exit .ensures) (p .prior .ensures) (c .before .before .if1 .taken) (c .late-of .ensures)
+    let o = c .before .before .before .before .before .before .before .before in
+    let p = c .before .before .before .before in
+    key-entry (o .args .a) (o .args .s) (o .args .k) (o .args .c) (o .pre .3) (p .before .cell-exit .ensures) (p .prior .ensures) (c .before .before .before .if1 .taken) (c .before .late-of .ensures)
 
 returns-2 : tie.Need-returns-2
 returns-2 c =
-    let o = c .before .before .before .before in
+    let o = c .before .before .before .before .before in
     key-cause (o .args .a) (o .args .s) (o .args .k) (o .args .c) (o .pre .3) (c .before .before .cell-exit .ensures) (c .before .prior .ensures) (c .if1 .left)
 
 pub key-of-spec : {M : Type 1} → statement M
