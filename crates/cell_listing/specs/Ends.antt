@@ -4,7 +4,7 @@ use mathlib.Core.List.{List}
 use Prim.Native.Nat.{ℕ, zero, suc, _+_}
 use lib.Dec.{eqb}
 use Rattle.fraction.specs.declared.Fraction.{Fraction}
-use Rattle.fraction.specs.Time.{Time, fraction}
+use Rattle.fraction.specs.Time.{Time, asTime}
 use Rattle.rule.specs.RowBytes.{rowWidth}
 use Rattle.row.specs.Stored.{idFrom, timeFrom}
 
@@ -14,4 +14,4 @@ endOf zero rows at id = record { num = 0; den = 1 }
 endOf (suc n) rows at id = cond (eqb (idFrom rows at) id) (timeFrom rows at) (endOf n rows (at + rowWidth) id)
 
 abbrev pub endTime : ℕ → List ℕ → ℕ → Time
-endTime n rows id = fraction (endOf n rows 0 id .num) (endOf n rows 0 id .den)
+endTime n rows id = asTime (endOf n rows 0 id)

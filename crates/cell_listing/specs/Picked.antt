@@ -3,7 +3,7 @@ use mathlib.Core.Path.{_≡_}
 use mathlib.Core.List.{List}
 use Prim.Native.Nat.{ℕ, _*_, _≤_}
 use lib.ListN.{length, take}
-use Rattle.fraction.specs.Small.{Small}
+use Rattle.fraction.specs.Sizes.{Timely}
 use Rattle.fraction.specs.Time.{Time}
 use Rattle.sheet.specs.declared.Sheet.{Sheet}
 use Rattle.sheet.specs.declared.Track.{Track}
@@ -18,7 +18,7 @@ use Rattle.cell_listing.specs.Listed.{idBytes}
 pub record RollIn (s : Sheet) (rows : List ℕ) : Type 0 where
   pub handed : Handed s
   pub rows-long : rowWidth * s .ntracks ≤ length rows
-  pub small : (i : ℕ) → Small (endOf (s .ntracks) rows 0 i .num) (endOf (s .ntracks) rows 0 i .den)
+  pub timely : (i : ℕ) → Timely (endOf (s .ntracks) rows 0 i)
 
 -- the buffer starts with the n ids of those of some tracks that have a point in the cell
 pub record Picked (T : ℕ → Time) (tracks : List Track) (s : ℕ) (k : Cell) (found : List ℕ) (n : ℕ) : Type 0 where

@@ -6,6 +6,7 @@ use mathlib.Core.Path.{_≡_, refl, sym, ap, subst, _∙_}
 use Prim.Native.Nat.{ℕ, zero, suc, _<_}
 use native.Mathlib.Omega.{arith}
 use lib.ListN.{length, getD, set}
+use Rattle.fraction.specs.declared.Fraction.{Fraction}
 use Rattle.sheet.specs.declared.Track.{Track}
 use Rattle.sheet.specs.Listing.{Listing}
 use Rattle.contact.specs.declared.Touch.{Touch}
@@ -66,13 +67,13 @@ pub is-noticed : {S : Listing} {side i j : ℕ} {ts ts′ : List Tip} {s : Slots
 is-noticed r o h = (h .queue, looks r o (h .holds))
 
 -- where the cause is not the tip at i it is what it was, and so is the event
-same-cause : {a b : Track} {k n u ud : ℕ} {c r : Cause} → TipOffered a b k n u ud c r → (r .class ≡ 0 → r .who ≡ k → ⊥) → r ≡ c
+same-cause : {a b : Track} {k n : ℕ} {end : Fraction} {c r : Cause} → TipOffered a b k n end c r → (r .class ≡ 0 → r .who ≡ k → ⊥) → r ≡ c
 same-cause {b = b} {k} {c = c} {r} o n = go (o .touch) (o .taken)
   where
     go : (t : Touch) → Taken b k t c r → r ≡ c
     go Nowhere e = e
-    go (Hit u ud s sd) (inl (e, _)) = e
-    go (Hit u ud s sd) (inr (e, _)) = absurd (n (ap (λ (d : Cause). d .class) e) (ap (λ (d : Cause). d .who) e))
+    go (Hit u s) (inl (e, _)) = e
+    go (Hit u s) (inr (e, _)) = absurd (n (ap (λ (d : Cause). d .class) e) (ap (λ (d : Cause). d .who) e))
 
 set-same : {A : Type 0} (l : List A) (i : ℕ) (d x : A) → getD l i d ≡ x → i < length l → set l i x ≡ l
 set-same [] i d x e h = absurd (omega arith)

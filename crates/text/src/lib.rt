@@ -81,8 +81,8 @@ fn row_line(row: Row) -> Draft
     let id = put_field(empty(), row.id as u64, b' ');
     let kind = put_field(id, row::kind_of(e) as u64, b' ');
     let partner = put_field(kind, row::partner_of(e) as u64, b' ');
-    let num = put_field(partner, row.num, b'/');
-    let den = put_field(num, row.den, b' ');
+    let num = put_field(partner, row.at.num, b'/');
+    let den = put_field(num, row.at.den, b' ');
     let x = put_field(den, row.x as u64, b' ');
     put_field(x, row.y as u64, b'\n')
 }
