@@ -1,7 +1,7 @@
 // The causes that end a tip, and which of them comes first (SHEETS 4.6, 4.9).
 ghost use mathlib.Core.Path.{_≡_};
 ghost use mathlib.Core.Bool.{true, false};
-ghost use Prim.Native.Nat.{_≤_, _<_};
+ghost use Prim.Native.Nat.{_<_};
 ghost use Rattle.sheet.specs.Accepted.{TrackOk, WallOk};
 ghost use Rattle.fraction.specs.Sizes.{Timely};
 ghost use Rattle.contact.specs.Answers.{TouchTimely};

@@ -8,7 +8,7 @@ use lib.ListN.{length}
 use Rattle.byte_order.specs.Bytes.{leBytes}
 use Rattle.sheet.specs.Lent.{andThen, orShort, after}
 use Rattle.sheet.specs.Listing.{Listing}
-use Rattle.sheet.specs.Returned.{Returned, accepted, gives, refused}
+use Rattle.sheet.specs.Returned.{Returned, accepted, refused}
 use Rattle.rule.specs.Rows.{timeOf}
 use Rattle.rule.specs.Selection.{rollOf}
 use Rattle.cells.specs.declared.Cell.{Cell}

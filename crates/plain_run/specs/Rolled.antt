@@ -5,7 +5,7 @@ use Prim.Native.Nat.{ℕ, _*_}
 use lib.ListN.{length}
 use Rattle.sheet.specs.Lent.{andThen, orShort, after}
 use Rattle.sheet.specs.Listing.{Listing}
-use Rattle.sheet.specs.Returned.{Returned, gives, refused}
+use Rattle.sheet.specs.Returned.{Returned}
 use Rattle.rule.specs.RowBytes.{rollBytes, rowWidth}
 use Rattle.rule.specs.Selection.{rollOf}
 use Rattle.sheet.specs.declared.Answer.{Answer}

@@ -4,11 +4,9 @@ use Prim.Native.Nat.{ℕ}
 use lib.ListN.{length}
 use Rattle.sheet.specs.declared.Sheet.{Sheet}
 use Rattle.sheet.specs.Lent.{andThen, orShort, after}
-use Rattle.sheet.specs.Returned.{Returned, gives, refused}
+use Rattle.sheet.specs.Returned.{Returned}
 use Rattle.sheet.specs.Ordered.{orderedForm}
 use Rattle.sheet.specs.HandedIn.{handedIn, checkOf}
-use Rattle.sheet.specs.declared.Answer.{Answer}
-use Rattle.sheet.specs.Answer.{answered}
 
 -- what the writer gives (SHEETS 2.6, 2.7)
 abbrev pub formOf : Sheet → List ℕ

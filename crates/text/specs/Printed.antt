@@ -4,7 +4,7 @@ use mathlib.Core.List.{List}
 use Prim.Native.Nat.{ℕ}
 use lib.ListN.{length}
 use Rattle.sheet.specs.Lent.{orShort, after}
-use Rattle.sheet.specs.Returned.{Returned, gives, refused}
+use Rattle.sheet.specs.Returned.{Returned}
 use Rattle.sheet.specs.declared.Answer.{Answer}
 use Rattle.sheet.specs.Answer.{answered}
 

@@ -1,5 +1,4 @@
 // The lines that programs `roll` and `bulletin` print (SHEETS 9). A line is put together in a buffer of its own, then copied to the caller's.
-ghost use mathlib.Core.Path.{_≡_};
 ghost use mathlib.Core.List.{[], _∷_, _++_};
 ghost use Prim.Native.Nat.{_+_, _≤_};
 ghost use lib.ListN.{length};

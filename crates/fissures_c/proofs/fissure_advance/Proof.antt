@@ -7,9 +7,6 @@ use Rattle.sheet.specs.Returned.{verdict}
 use Rattle.fissures_c.proofs.Stepped.{fits, as-judged, advanced}
 use Rattle.fissures_c.proofs.fissure_advance.Statement.{statement}
 use Rattle.fissures_c.proofs.fissure_advance.Tie as tie
-use Rattle.fissures_c.proofs.take.Reads as take-reads
-use Rattle.fissures_c.proofs.tell.Reads as tell-reads
-use Rattle.session.proofs.Session.advance.Reads as advance-reads
 
 take-requires : tie.Need-take-requires
 take-requires c κs = search needs

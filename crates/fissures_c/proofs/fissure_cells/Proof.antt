@@ -3,8 +3,6 @@ use borrow.Author.Needs.{needs}
 use Rattle.fissures_c.proofs.Reached.{left}
 use Rattle.fissures_c.proofs.fissure_cells.Statement.{statement}
 use Rattle.fissures_c.proofs.fissure_cells.Tie as tie
-use Rattle.fissures_c.proofs.tell.Reads as tell-reads
-use Rattle.cell_listing.proofs.cell_tracks_bytes.Reads as cell-tracks-bytes-reads
 
 cell-tracks-bytes-requires : tie.Need-cell-tracks-bytes-requires
 cell-tracks-bytes-requires c κs = search needs

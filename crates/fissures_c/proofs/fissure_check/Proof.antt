@@ -6,8 +6,6 @@ use Rattle.fissures_c.proofs.Reached.{left-two}
 use Rattle.fissures_c.specs.Answers.{told}
 use Rattle.fissures_c.proofs.fissure_check.Statement.{statement}
 use Rattle.fissures_c.proofs.fissure_check.Tie as tie
-use Rattle.fissures_c.proofs.tell.Reads as tell-reads
-use Rattle.sheet_reader.proofs.scan.Reads as scan-reads
 
 scan-requires : tie.Need-scan-requires
 scan-requires c κs = search needs

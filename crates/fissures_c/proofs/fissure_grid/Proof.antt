@@ -5,8 +5,6 @@ use Rattle.grid_run.specs.GridRolled.{gridRolled}
 use Rattle.fissures_c.proofs.Reached.{left-four, counted, not-counted}
 use Rattle.fissures_c.proofs.fissure_grid.Statement.{statement}
 use Rattle.fissures_c.proofs.fissure_grid.Tie as tie
-use Rattle.fissures_c.proofs.tell.Reads as tell-reads
-use Rattle.grid_run.proofs.grid_roll_bytes.Reads as grid-roll-bytes-reads
 
 grid-roll-bytes-requires : tie.Need-grid-roll-bytes-requires
 grid-roll-bytes-requires c κs = search needs

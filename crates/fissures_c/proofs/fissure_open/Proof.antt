@@ -6,8 +6,6 @@ use Rattle.sheet.specs.Returned.{verdict}
 use Rattle.fissures_c.proofs.Stepped.{fits, not-started, started}
 use Rattle.fissures_c.proofs.fissure_open.Statement.{statement}
 use Rattle.fissures_c.proofs.fissure_open.Tie as tie
-use Rattle.fissures_c.proofs.take.Reads as take-reads
-use Rattle.fissures_c.proofs.tell.Reads as tell-reads
 
 take-requires : tie.Need-take-requires
 take-requires c κs = search needs

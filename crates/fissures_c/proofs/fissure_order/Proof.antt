@@ -6,9 +6,6 @@ use Rattle.sheet.specs.Returned.{verdict}
 use Rattle.fissures_c.proofs.Reached.{left, not-read, as-written}
 use Rattle.fissures_c.proofs.fissure_order.Statement.{statement}
 use Rattle.fissures_c.proofs.fissure_order.Tie as tie
-use Rattle.fissures_c.proofs.tell.Reads as tell-reads
-use Rattle.sheet_reader.proofs.read.Reads as read-reads
-use Rattle.sheet_writer.proofs.write.Reads as write-reads
 
 read-requires : tie.Need-read-requires
 read-requires c κs = search needs

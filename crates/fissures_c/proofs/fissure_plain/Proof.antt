@@ -3,8 +3,6 @@ use borrow.Author.Needs.{needs}
 use Rattle.fissures_c.proofs.Reached.{left}
 use Rattle.fissures_c.proofs.fissure_plain.Statement.{statement}
 use Rattle.fissures_c.proofs.fissure_plain.Tie as tie
-use Rattle.fissures_c.proofs.tell.Reads as tell-reads
-use Rattle.plain_run.proofs.plain_roll_bytes.Reads as plain-roll-bytes-reads
 
 plain-roll-bytes-requires : tie.Need-plain-roll-bytes-requires
 plain-roll-bytes-requires c κs = search needs

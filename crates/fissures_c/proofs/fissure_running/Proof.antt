@@ -6,9 +6,6 @@ use Rattle.sheet.specs.Returned.{verdict}
 use Rattle.fissures_c.proofs.Stepped.{not-running, running}
 use Rattle.fissures_c.proofs.fissure_running.Statement.{statement}
 use Rattle.fissures_c.proofs.fissure_running.Tie as tie
-use Rattle.fissures_c.proofs.take.Reads as take-reads
-use Rattle.fissures_c.proofs.tell.Reads as tell-reads
-use Rattle.session.proofs.Session.running.Reads as running-reads
 
 take-requires : tie.Need-take-requires
 take-requires c κs = search needs

@@ -1,6 +1,5 @@
 use borrow.Author.Needs.{needs}
 use Rattle.pair_marks.proofs.Stored.{row-read}
-use borrow.Author.Needs.{needs}
 use Rattle.pair_marks.proofs.row_of.Statement.{statement}
 use Rattle.pair_marks.proofs.row_of.Tie as tie
 

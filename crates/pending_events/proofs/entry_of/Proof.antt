@@ -1,16 +1,7 @@
 use Rattle.pending_events.proofs.Events.{entry-is}
 use borrow.Author.Needs.{needs}
-use native.Mathlib.Omega.{arith}
-use Prim.Native.Nat.{ℕ, _≤_, _<_, _-_, _+_, _*_}
-use mathlib.Core.Path.{_≡_}
-use lib.ListN.{length, getD, take, drop, set}
-use borrow.Author.Needs.{needs}
 use Rattle.pending_events.proofs.entry_of.Statement.{statement}
 use Rattle.pending_events.proofs.entry_of.Tie as tie
-use Rattle.pending_events.proofs.entry_of.Reads as reads
-use Rattle.pending_events.proofs.entry_of.Lts as lts
-use Rattle.pending_events.proofs.event_of.Reads as event-of-reads
-use Rattle.pending_events.proofs.key_of.Reads as key-of-reads
 
 key-of-requires : tie.Need-key-of-requires
 key-of-requires c κs = search needs

@@ -1,6 +1,5 @@
 -- `frame` answers every input: the bytes that it reads fit the buffer.
 use borrow.Author.Needs.{needs}
-use Prim.Native.Nat.{_-_}
 use mathlib.Core.Path.{sym}
 use lib.Seq.{length-take-le}
 use Rattle.vectors.proofs.frame.Statement.{statement}

@@ -1,6 +1,5 @@
 -- `main` ends: its turns are counted down.
 use borrow.Author.Needs.{needs}
-use Prim.Native.Nat.{_-_}
 use mathlib.Core.Path.{_≡_}
 use lib.ListN.{length}
 use Rattle.vectors.proofs.main.Statement.{statement}
