@@ -70,32 +70,25 @@ pub fn turn(
     ensures { λ r. ⌜ Wrote (sheetIn (now (records .entry))) rows (now (out .entry)) r (now (out .exit)) ⌝ }
 {
     let side = 4096 / g;
-    match event_queue::pop(queue) {
-        Next::Tip(i, event) => match event {
-            Event::Cell(column, row) => {
-                let column = column as u64;
-                let row = row as u64;
-                let k = Cell { column, row };
-                grid_enter::enter(records, side, i, k, tips, queue, marks, members);
-                Outcome::Rows(rows)
-            }
-            Event::Track(id) => {
-                let k = reach(records, side, i, id, rows, tips, queue, marks, out);
-                Outcome::Rows(k)
-            }
-            Event::Wall(id) => {
-                let ending = Ending::ByWall(id);
-                Outcome::Rows(ending::end_tip(records, i, ending, rows, tips, out))
-            }
-            Event::Edge => Outcome::Rows(ending::end_tip(
-                records,
-                i,
-                Ending::Edge,
-                rows,
-                tips,
-                out,
-            )),
-        },
-        Next::Nothing => Outcome::Over,
+    let Next::Tip(i, event) = event_queue::pop(queue) else {
+        return Outcome::Over;
+    };
+    match event {
+        Event::Cell(column, row) => {
+            let column = column as u64;
+            let row = row as u64;
+            let k = Cell { column, row };
+            grid_enter::enter(records, side, i, k, tips, queue, marks, members);
+            Outcome::Rows(rows)
+        }
+        Event::Track(id) => {
+            let k = reach(records, side, i, id, rows, tips, queue, marks, out);
+            Outcome::Rows(k)
+        }
+        Event::Wall(id) => {
+            let ending = Ending::ByWall(id);
+            Outcome::Rows(ending::end_tip(records, i, ending, rows, tips, out))
+        }
+        Event::Edge => Outcome::Rows(ending::end_tip(records, i, Ending::Edge, rows, tips, out)),
     }
 }

@@ -1,3 +1,4 @@
+-- `row_of` gives the marks of one tip.
 use borrow.Author.Needs.{needs}
 use Rattle.pair_marks.proofs.Stored.{row-read}
 use Rattle.pair_marks.proofs.row_of.Statement.{statement}

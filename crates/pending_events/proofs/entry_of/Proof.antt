@@ -1,3 +1,4 @@
+-- `entry_of` puts the key and the event together.
 use Rattle.pending_events.proofs.Events.{entry-is}
 use borrow.Author.Needs.{needs}
 use Rattle.pending_events.proofs.entry_of.Statement.{statement}
