@@ -29,7 +29,7 @@ pub struct Key {
 }
 
 // The key that comes first.
-fn sooner(a: Key, b: Key) -> Key
+fn first_of(a: Key, b: Key) -> Key
     requires { ⌜ Timely (a .at) × Timely (b .at) ⌝ }
     ensures { λ r. ⌜ Soonest a b r ⌝ }
 {
@@ -77,7 +77,7 @@ fn pick(records: &[u16], tips: &[u64]) -> usize
     let mut i: usize = 0;
     while i < n {
         let next = key_at(records, tips, i);
-        best = sooner(best, next);
+        best = first_of(best, next);
         i += 1;
     }
     best.tip

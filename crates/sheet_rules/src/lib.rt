@@ -156,7 +156,7 @@ fn onward(dx: i32, dy: i32, vx: i32, vy: i32) -> bool
     false
 }
 
-fn wide(v: i8) -> i32
+fn speed(v: i8) -> i32
     ensures { λ r. ⌜ r ≡ v ⌝ }
 {
     v as i32
@@ -166,7 +166,7 @@ fn wide(v: i8) -> i32
 pub fn ahead(a: Track, b: Track) -> bool
     ensures { λ r. ⌜ r ≡ table.ahead a b ⌝ }
 {
-    onward(gap(a.x, b.x), gap(a.y, b.y), wide(a.vx), wide(a.vy))
+    onward(gap(a.x, b.x), gap(a.y, b.y), speed(a.vx), speed(a.vy))
 }
 
 // The two tips face each other (SHEETS 3.6).

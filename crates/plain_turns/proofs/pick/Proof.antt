@@ -31,8 +31,8 @@ loop-holds c = let o = c .before .before .before .before in (omega arith, pick-f
 key-at-requires-2 : tie.Need-key-at-requires-2 Inv-loop μ-loop
 key-at-requires-2 c κs = let p = c .before .before .before .before .before .before .pre in (p .0, p .1, omega (arith, c .loop-test .taken, c .before .before .before .track-count .ensures))
 
-sooner-requires : tie.Need-sooner-requires Inv-loop μ-loop
-sooner-requires c κs =
+first-of-requires : tie.Need-first-of-requires Inv-loop μ-loop
+first-of-requires c κs =
     let m = c .before .before .before .before .before .before .before .pre .2 in
     let l = c .before .before .loop in
     let b = l .inv .1 in (
@@ -51,7 +51,7 @@ loop-again c =
     let a = c .before .before .before .before .before .before .before .before .args in
     let l = c .before .before .before .loop in
     let h = c .before .before .loop-test .taken in
-    (omega (arith, h), pick-next (sheetIn (a .records .now)) (tipsIn (a .tips .now)) (l .i) (omega (arith, h, c .before .before .before .before .before .track-count .ensures)) (c .before .key-at2 .ensures) (l .inv .1) (c .sooner .ensures))
+    (omega (arith, h), pick-next (sheetIn (a .records .now)) (tipsIn (a .tips .now)) (l .i) (omega (arith, h, c .before .before .before .before .before .track-count .ensures)) (c .before .key-at2 .ensures) (l .inv .1) (c .first-of .ensures))
 
 returns : tie.Need-returns Inv-loop μ-loop
 returns c =
@@ -70,7 +70,7 @@ pick-spec =
     key-at-requires
     loop-holds
     key-at-requires-2
-    sooner-requires
+    first-of-requires
     add-i
     loop-less
     loop-again

@@ -1,4 +1,4 @@
--- `sooner` gives the key that is ahead.
+-- `first_of` gives the key that is ahead.
 use mathlib.Core.Logic.{inl, inr}
 use mathlib.Core.Path.{refl, sym, _∙_}
 use native.Mathlib.Omega.{arith}
@@ -6,8 +6,8 @@ use Rattle.fraction.specs.Order.{≈ᵗ-of}
 use Rattle.cause.proofs.First.{not-later, later}
 use Rattle.plain_turns.specs.Key.{running, earlier, together}
 use borrow.Author.Needs.{needs}
-use Rattle.plain_turns.proofs.sooner.Statement.{statement}
-use Rattle.plain_turns.proofs.sooner.Tie as tie
+use Rattle.plain_turns.proofs.first_of.Statement.{statement}
+use Rattle.plain_turns.proofs.first_of.Tie as tie
 
 returns : tie.Need-returns
 returns c = inl (refl, running (c .if1 .taken))
@@ -33,8 +33,8 @@ returns-5 c = let p = c .before .before .before .before .before .before .before 
 returns-6 : tie.Need-returns-6
 returns-6 c = let p = c .before .before .before .before .before .before .before .before .before .before .pre in inr (refl, earlier (omega (arith, c .before .before .before .before .before .before .before .if1 .left, c .before .before .before .before .if2 .left)) (later (p .0) (p .1) (sym (c .before .not-later .ensures) ∙ c .if3 .left)))
 
-pub sooner-spec : {M : Type 1} → statement M
-sooner-spec =
+pub first-of-spec : {M : Type 1} → statement M
+first-of-spec =
     tie.close
     (tie.spec
     returns
