@@ -6,7 +6,7 @@ use Prim.Native.Nat.{ℕ, _≤_, _<_}
 use native.Mathlib.Omega.{arith}
 use lib.ListN.{getD}
 use Rattle.sheet.specs.Listing.{Listing, _∈_}
-use Rattle.cell_members.specs.Members.{newestAt, tipAt, olderAt, rest, countIn, Linked, membersIn}
+use Rattle.cell_members.specs.Members.{CELLS, newestAt, tipAt, olderAt, rest, countIn, Linked, membersIn}
 use Rattle.cell_members.proofs.Chains.{rest-step, rest-none, members-at}
 use Rattle.grid_state.specs.Sweep.{Crowd, crowdIn, Crowded}
 use Rattle.grid_state.specs.Meeting.{Paired, Meets, nobody, and-then, MayMeet}
@@ -19,7 +19,7 @@ pub record Walking (S : Listing) (side i : ℕ) (l : List ℕ) (cell : ℕ) (w�
   pub onward : (w′ : Crowd) → Meets S side i (rest l e) w w′ → Meets S side i (getD (membersIn l) cell []) w₀ w′
 
 module _ {S : Listing} {side i : ℕ} {l : List ℕ} {cell : ℕ} (k : Linked l) where
-  pub walk-start : {t q m : List ℕ} → cell < 1024 → Crowded (MayMeet S side i (getD (membersIn l) cell [])) t q m → Crowded (Walking S side i l cell (crowdIn t q m) (newestAt l cell)) t q m
+  pub walk-start : {t q m : List ℕ} → cell < CELLS → Crowded (MayMeet S side i (getD (membersIn l) cell [])) t q m → Crowded (Walking S side i l cell (crowdIn t q m) (newestAt l cell)) t q m
   walk-start {t} {q} {m} h c =
       record {
         tips-room = c .tips-room;

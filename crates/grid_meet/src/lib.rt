@@ -5,7 +5,7 @@ ghost use lib.ListN.{getD};
 ghost use Rattle.event_queue.specs.Queue.{Queue, slots};
 ghost use Rattle.records.specs.Records.{Recorded, sheetIn};
 ghost use Rattle.tips.specs.Tips.{Room, tipsIn};
-ghost use Rattle.cell_members.specs.Members.{Linked, membersIn};
+ghost use Rattle.cell_members.specs.Members.{CELLS, Linked, membersIn};
 ghost use Rattle.grid_state.specs.Sweep.{crowdIn, Crowded};
 ghost use Rattle.grid_state.specs.Meeting.{Noticed, Paired, MayMeet};
 ghost use Rattle.grid_meet.specs.Meeting.{MayNotice, MeetsIn};
@@ -62,7 +62,7 @@ pub fn meet(
     queue: &mut [u64],
     marks: &mut [u8],
 )
-    requires { ⌜ Recorded (now records) × Linked (now members) × (cell < 1024) × Crowded (MayMeet (sheetIn (now records)) side i (getD (membersIn (now members)) cell [])) (now tips) (now queue) (now marks) ⌝ }
+    requires { ⌜ Recorded (now records) × Linked (now members) × (cell < CELLS) × Crowded (MayMeet (sheetIn (now records)) side i (getD (membersIn (now members)) cell [])) (now tips) (now queue) (now marks) ⌝ }
     ensures { λ r. ⌜ Crowded (MeetsIn (now (records .entry)) side i (now (members .entry)) cell (crowdIn (now (tips .entry)) (now (queue .entry)) (now (marks .entry)))) (now (tips .exit)) (now (queue .exit)) (now (marks .exit)) ⌝ }
 {
     let mut e = cell_members::newest(members, cell);

@@ -7,6 +7,7 @@ use native.Mathlib.Decide.{ℕ-discrete}
 use native.Mathlib.Omega.{arith}
 use lib.ListN.{length, getD, set, length-set}
 use lib.Seq.{getD-set-same, getD-set-other}
+use Rattle.cell_members.specs.Members.{CELLS}
 use Rattle.fraction.specs.Time.{Time, _≤ᵗ_, _<ᵗ_}
 use Rattle.fraction.specs.Order.{≤ᵗ-or-<ᵗ}
 use Rattle.fraction.proofs.TimeOrder.{≤ᵗ-trans, <ᵗ→≤ᵗ, ≈ᵗ→≤ᵗ, ≤ᵗ-refl, <ᵗ-≤ᵗ-trans, <ᵗ-irrefl, zero-first}
@@ -197,7 +198,7 @@ module _ (es : List (List Cell)) (i : ℕ) (room : i < length es) (k : Cell) whe
       go (no n) = omega (arith, ap length (other-cells es i room k p n), f p)
 
   -- it joins the list of the cell
-  pub listed-enter : {b : ℕ} {members members′ : List (List ℕ)} {count count′ : ℕ} → i < b → codeOf k < 1024 → length (cellsAt es i) < 63 → Listed es b members count
+  pub listed-enter : {b : ℕ} {members members′ : List (List ℕ)} {count count′ : ℕ} → i < b → codeOf k < CELLS → length (cellsAt es i) < 63 → Listed es b members count
       → members′ ≡ set members (codeOf k) (i ∷ getD members (codeOf k) []) → count′ ≡ count + 1 → Listed es′ b members′ count′
   listed-enter {b} {members} {members′} {count} {count′} h small short ls e e′ =
       record {
@@ -215,8 +216,8 @@ module _ (es : List (List Cell)) (i : ℕ) (room : i < length es) (k : Cell) whe
       there : (c : ℕ) → c ≢ codeOf k → getD members′ c [] ≡ getD members c []
       there c n = ap (λ (z : List (List ℕ)). getD z c []) e ∙ getD-set-other members (codeOf k) c (i ∷ getD members (codeOf k) []) [] n
 
-      inside-of : (p : ℕ) (c : Cell) → p < b → ((p ≡ i) × (c ≡ k)) ⊎ (c ∈ cellsAt es p) → codeOf c < 1024
-      inside-of p c l (inl (_, u)) = subst (λ (z : Cell). codeOf z < 1024) (sym u) small
+      inside-of : (p : ℕ) (c : Cell) → p < b → ((p ≡ i) × (c ≡ k)) ⊎ (c ∈ cellsAt es p) → codeOf c < CELLS
+      inside-of p c l (inl (_, u)) = subst (λ (z : Cell). codeOf z < CELLS) (sym u) small
       inside-of p c l (inr x) = ls .inside p c l x
 
       kept : (c p : ℕ) → Dec (c ≡ codeOf k) → p ∈ getD members c [] → p ∈ getD members′ c []
@@ -227,7 +228,7 @@ module _ (es : List (List Cell)) (i : ℕ) (room : i < length es) (k : Cell) whe
       member-of p c l (inl (v, u)) = subst (λ (z : Cell). p ∈ getD members′ (codeOf z) []) (sym u) (subst (λ (z : List ℕ). p ∈ z) (sym here) (List·Memᴰ·head v))
       member-of p c l (inr x) = kept (codeOf c) p (ℕ-discrete (codeOf c) (codeOf k)) (ls .member p c l x)
 
-      only-of : (c p : ℕ) → c < 1024 → Dec (c ≡ codeOf k) → p ∈ getD members′ c [] → p < b
+      only-of : (c p : ℕ) → c < CELLS → Dec (c ≡ codeOf k) → p ∈ getD members′ c [] → p < b
       only-of c p l (no n) m = ls .only c p l (subst (λ (z : List ℕ). p ∈ z) (there c n) m)
       only-of c p l (yes u) m = go (List·Memᴰ·cases-cons (subst (λ (z : List ℕ). p ∈ z) here (subst (λ (z : ℕ). p ∈ getD members′ z []) u m)))
         where

@@ -5,6 +5,9 @@ use mathlib.Core.Path.{_≡_, refl, sym, ap, subst, _∙_}
 use Prim.Native.Nat.{ℕ, zero, suc}
 use native.Mathlib.Omega.{arith}
 use lib.ListN.{length, replicate, length-replicate}
+use Rattle.cell_members.specs.Members as members
+use Rattle.pair_marks.specs.Marks as marks
+use Rattle.tips.specs.Tips as tips
 use Rattle.number_tables.proofs.Blank.{Blank, blank, same-at}
 use Rattle.sheet.specs.Accepted.{Accepted}
 use Rattle.sheet.specs.Listing.{Listing, _∈_}
@@ -31,7 +34,7 @@ total-none zero = refl
 total-none (suc n) = omega (arith, total-none n)
 
 module _ {S : Listing} (acc : Accepted S) {g : ℕ} (fig : Figure g) (t q k m : List ℕ)
-    (bt : Blank 0 4352 t) (h : Holds q (replicate 256 none)) (bk : Blank 0 65536 k) (bm : Blank 0 33281 m) where
+    (bt : Blank 0 tips.LENGTH t) (h : Holds q (replicate 256 none)) (bk : Blank 0 marks.LENGTH k) (bm : Blank 0 members.LENGTH m) where
   abbrev es : List (List Cell)
   es = none-entered (length (S .tracks))
 
@@ -93,6 +96,6 @@ module _ {S : Listing} (acc : Accepted S) {g : ℕ} (fig : Figure g) (t q k m : 
 
 -- in slices of zeros, as arrays begin
 pub opened : {S : Listing} → Accepted S → {g : ℕ} → Figure g → (q : List ℕ) → Holds q (replicate 256 none)
-    → Swept (Starting S g 0) (replicate 4352 0) q (replicate 65536 0) (replicate 33281 0)
+    → Swept (Starting S g 0) (replicate tips.LENGTH 0) q (replicate marks.LENGTH 0) (replicate members.LENGTH 0)
 opened acc fig q h =
-    opening acc fig (replicate 4352 0) q (replicate 65536 0) (replicate 33281 0) (blank 0 4352) h (blank 0 65536) (blank 0 33281)
+    opening acc fig (replicate tips.LENGTH 0) q (replicate marks.LENGTH 0) (replicate members.LENGTH 0) (blank 0 tips.LENGTH) h (blank 0 marks.LENGTH) (blank 0 members.LENGTH)

@@ -8,6 +8,7 @@ use native.Mathlib.Decide.{ℕ-discrete}
 use native.Mathlib.Omega.{arith}
 use lib.ListN.{length, getD, set, length-set}
 use lib.Seq.{getD-set-other}
+use Rattle.cell_members.specs.Members.{CELLS}
 use Rattle.fraction.specs.Time.{asTime}
 use Rattle.sheet.specs.HandedIn.{noTrack}
 use Rattle.sheet.specs.Listing.{Listing, _∈_}
@@ -87,7 +88,7 @@ module _ {S : Listing} {side b i : ℕ} {k : Cell} {done : List Row} {es : List 
   pub way-looks : MayLookHere S (w .crowd .tips) i
   way-looks = record { tip-in = way-place .0; fine = y .state .looked .fine i (y .runs .0); base = y .state .looked .base i (y .runs) .walls .stands }
 
-  pub way-code : codeOf k < 1024
+  pub way-code : codeOf k < CELLS
   way-code = omega (arith, y .in-grid .column-in, y .in-grid .row-in)
 
   pub way-room : w .entered < 63 * length (S .tracks)

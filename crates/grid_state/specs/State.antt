@@ -5,6 +5,7 @@ use mathlib.Core.Option.{none, some}
 use mathlib.Core.List.{List, [], _∷_}
 use Prim.Native.Nat.{ℕ, _+_, _*_, _≤_, _<_}
 use lib.ListN.{length, getD}
+use Rattle.cell_members.specs.Members.{CELLS}
 use Rattle.fraction.specs.Time.{Time, _≤ᵗ_}
 use Rattle.sheet.specs.declared.Track.{Track}
 use Rattle.sheet.specs.declared.Wall.{Wall}
@@ -95,10 +96,10 @@ pub record Placed (S : Listing) (done : List Row) (side : ℕ) (es : List (List 
 
 -- the tips of each cell, and how many cells have been entered
 pub record Listed (es : List (List Cell)) (b : ℕ) (members : List (List ℕ)) (count : ℕ) : Type 0 where
-  pub long : length members ≡ 1024
-  pub inside : (j : ℕ) (k : Cell) → j < b → k ∈ cellsAt es j → codeOf k < 1024
+  pub long : length members ≡ CELLS
+  pub inside : (j : ℕ) (k : Cell) → j < b → k ∈ cellsAt es j → codeOf k < CELLS
   pub member : (j : ℕ) (k : Cell) → j < b → k ∈ cellsAt es j → j ∈ getD members (codeOf k) []
-  pub only : (c j : ℕ) → c < 1024 → j ∈ getD members c [] → j < b
+  pub only : (c j : ℕ) → c < CELLS → j ∈ getD members c [] → j < b
   pub few : (j : ℕ) → length (cellsAt es j) ≤ 63
   pub counted : count ≡ total es
 

@@ -16,7 +16,7 @@ use Rattle.rule.specs.RowBytes.{rowWidth}
 use Rattle.cause.specs.declared.Cause.{Cause}
 use Rattle.cause.specs.Cause.{tipAt}
 use Rattle.number_tables.proofs.Blank.{blank}
-use Rattle.tips.specs.Tips.{Tip, tipsIn, tipIn, withBase, withBest}
+use Rattle.tips.specs.Tips.{LENGTH, Tip, tipsIn, tipIn, withBase, withBest}
 use Rattle.tips.proofs.Stored.{tips-long, tip-blank}
 use Rattle.tips.proofs.Put.{at-put}
 use Rattle.look.specs.Ends.{Ends}
@@ -42,11 +42,11 @@ all-known =
       all = λ j h e. let x : _≡_ {A = ℕ} 0 1 = sym e ∙ ones 256 j h in absurd (omega arith);
     }
 
-pub begin-none : {S : Listing} → Begun S (tipsIn (replicate 4352 0)) 0
+pub begin-none : {S : Listing} → Begun S (tipsIn (replicate LENGTH 0)) 0
 begin-none =
     record {
-      long = tips-long (replicate 4352 0);
-      none = λ k. ap (λ (t : Tip). t .ended) (tip-blank (replicate 4352 0) (blank 0 4352) k);
+      long = tips-long (replicate LENGTH 0);
+      none = λ k. ap (λ (t : Tip). t .ended) (tip-blank (replicate LENGTH 0) (blank 0 LENGTH) k);
       based = λ k l. absurd (omega arith);
       seen = λ k l. absurd (omega arith);
     }

@@ -1,6 +1,7 @@
 -- `roll_of` writes the roll of the sheet in the records: the causes are found, and the turns taken.
 use Prim.Native.Nat.{ℕ}
 use lib.ListN.{length-replicate}
+use Rattle.tips.specs.Tips.{LENGTH}
 use Rattle.plain_turns.proofs.Beginning.{all-known, begin-none, begin-state}
 use borrow.Author.Needs.{needs}
 use Rattle.plain_turns.proofs.roll_of.Statement.{statement}
@@ -13,7 +14,7 @@ slice-aggregate-begin-2 : tie.Need-slice-aggregate-begin-2
 slice-aggregate-begin-2 c = search needs
 
 begin-requires : tie.Need-begin-requires
-begin-requires c κs = (c .before .before .before .before .pre .0, all-known, length-replicate {A = ℕ} 4352 0, begin-none)
+begin-requires c κs = (c .before .before .before .before .pre .0, all-known, length-replicate {A = ℕ} LENGTH 0, begin-none)
 
 slice-aggregate-take-turns : tie.Need-slice-aggregate-take-turns
 slice-aggregate-take-turns c = search needs
