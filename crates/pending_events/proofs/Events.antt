@@ -22,7 +22,7 @@ use Rattle.event_queue.specs.declared.Event.{Event}
 use Rattle.event_queue.specs.declared.Event.the-variants as event
 use Rattle.event_queue.specs.Late.{entryLate}
 use Rattle.pending_events.specs.Pending.{entryKey, causeKey, entersFirst, pendingKey, pendingEntry, reachedOf, eventOf}
-use Rattle.pending_events.proofs.Order.{enters-den}
+use Rattle.pending_events.proofs.Order.{enters-den, not-one}
 
 -- ---- the key
 
@@ -85,3 +85,19 @@ next-in a s k e h i =
 pub entry-is : (a : Track) (s : ℕ) (k : Cell) (c : Cause) {key : Key} {event : Event} → key ≡ pendingKey a s k c → event ≡ eventOf (key .late) (next a s k) c →
     _≡_ {A = Entry} (record { key = key; event = event }) (pendingEntry a s k c)
 entry-is a s k c p q = ap₂ (λ (x : Key) (y : Event). record { key = x; event = y }) p (q ∙ ap (λ (z : Key). eventOf (z .late) (next a s k) c) p)
+
+-- x is where the tip comes next
+module _ (a : Track) (s : ℕ) (k : Cell) (c : Cause) (f : Fine c) {x : Crossing} (g : Crosses (crossOf a s k) x) where
+  when-is : Gives (onsetOf (exit a s k)) (x .when)
+  when-is = record { is = ap (λ (z : Crossing). z .when) (g .is); ready = g .ready }
+
+  pub entry-entered : {b : Bool} {late : ℕ} → b ≡ priorOf (x .when) (onset (c .at) 1) → b ≡ true → late ≡ entryLate (eqb (x .when .late) 1) →
+      (_≡_ {A = Entry} (record { key = record { at = x .when .at; late = late; id = a .id }; event = event.Cell (x .cell .column) (x .cell .row) }) (pendingEntry a s k c)) × Timely (x .when .at)
+  entry-entered {late = late} e w l =
+      let (p, t) = key-entry a s k c f when-is e w l in
+      (entry-is a s k c p (event-cell a s k c late g (λ z. not-one (eqb (x .when .late) 1) (sym l ∙ z))), t)
+
+  pub entry-reached : {b : Bool} {r : Event} → b ≡ priorOf (x .when) (onset (c .at) 1) → b ≡ false → r ≡ reachedOf (c .class) (c .id) →
+      (_≡_ {A = Entry} (record { key = causeKey c (a .id); event = r }) (pendingEntry a s k c)) × Timely (c .at)
+  entry-reached e w q =
+      let (p, t) = key-cause a s k c f when-is e w in (entry-is a s k c p (event-reached a s k c 1 q refl), t)

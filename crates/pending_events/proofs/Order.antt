@@ -100,7 +100,7 @@ module _ (a : Track) (s : ℕ) (k : Cell) (c : Cause) where
   pub key-id : pendingKey a s k c .id ≡ a .id
   key-id = pending-by (λ x. x .id ≡ a .id) (λ e. refl) (λ e. refl)
 
-not-one : (b : Bool) → entryLate b ≡ 1 → ⊥
+pub not-one : (b : Bool) → entryLate b ≡ 1 → ⊥
 not-one true h = omega arith
 not-one false h = omega arith
 

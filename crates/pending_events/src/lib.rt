@@ -15,24 +15,6 @@ use event_queue::Event;
 use event_queue::Key;
 use sheet::Track;
 
-// When the pending event of tip a leaves the queue, while a is in cell k of side s and c is the first cause known to end it.
-fn key_of(a: Track, s: u64, k: Cell, c: Cause) -> Key
-    requires { ⌜ TrackOk a × (s ≤ 4096) × Near k × Fine c ⌝ }
-    ensures { λ r. ⌜ (r ≡ pendingKey a s k c) × Timely (r .at) ⌝ }
-{
-    let id = a.id as u64;
-    let at = c.at;
-    let entry = cell_walk::cell_exit(a, s, k);
-    let end = Onset { at, late: 1 };
-    if cell_walk::prior(entry, end) {
-        // Which cell it is does not matter to the order.
-        let late = event_queue::late_of(Event::Cell(0, 0), entry.late == 1);
-        let at = entry.at;
-        return Key { at, late, id };
-    }
-    Key { at, late: 1, id }
-}
-
 // What a cause of this class and partner is as an event.
 fn reached(class: u64, id: u64) -> Event
     requires { ⌜ id ≤ 65535 ⌝ }
@@ -47,25 +29,29 @@ fn reached(class: u64, id: u64) -> Event
     Event::Edge
 }
 
-// The pending event itself; `late` is that of its key.
-fn event_of(a: Track, s: u64, k: Cell, c: Cause, late: u64) -> Event
-    requires { ⌜ TrackOk a × (s ≤ 4096) × (k .column ≤ 100) × (k .row ≤ 100) × (c .id ≤ 65535) ⌝ }
-    ensures { λ r. ⌜ r ≡ eventOf late (next a s k) c ⌝ }
-{
-    if late == 1 {
-        return reached(c.class, c.id);
-    }
-    let crossing = cell_walk::next_entry(a, s, k);
-    let cell = crossing.cell;
-    Event::Cell(cell.column as u8, cell.row as u8)
-}
-
 // The pending event of tip a, which is in cell k of side s and which c is the first cause known to end.
 pub fn entry_of(a: Track, s: u64, k: Cell, c: Cause) -> Entry
     requires { ⌜ TrackOk a × (s ≤ 4096) × (k .column < 32) × (k .row < 32) × Fine c × (c .id ≤ 65535) ⌝ }
     ensures { λ r. ⌜ (r ≡ pendingEntry a s k c) × Timely (r .key .at) ⌝ }
 {
-    let key = key_of(a, s, k, c);
-    let event = event_of(a, s, k, c, key.late);
+    let id = a.id as u64;
+    let at = c.at;
+    let next = cell_walk::next_entry(a, s, k);
+    let when = next.when;
+    let end = Onset { at, late: 1 };
+    if cell_walk::prior(when, end) {
+        let cell = next.cell;
+        let event = Event::Cell(cell.column as u8, cell.row as u8);
+        let late = event_queue::late_of(event, when.late == 1);
+        let entered = when.at;
+        let key = Key {
+            at: entered,
+            late,
+            id,
+        };
+        return Entry { key, event };
+    }
+    let event = reached(c.class, c.id);
+    let key = Key { at, late: 1, id };
     Entry { key, event }
 }
