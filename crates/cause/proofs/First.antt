@@ -47,6 +47,11 @@ module _ (S : Listing) (t : Track) {a b : Cause} (p : Stands S t a) (q : Stands 
   comes-below (in-class h k) = rule.in-class h (omega (arith, p .ranked, q .ranked))
   comes-below (in-id h k l) = rule.in-id h (omega (arith, p .ranked, q .ranked)) (omega (arith, p .named, q .named))
 
+  pub below-comes : candOf S a ≼ candOf S b → Comes a b
+  below-comes (rule.in-time h) = in-time h
+  below-comes (rule.in-class h k) = in-class h (omega (arith, p .ranked, q .ranked))
+  below-comes (rule.in-id h k l) = in-id h (omega (arith, p .ranked, q .ranked)) (omega (arith, p .named, q .named))
+
 module _ (S : Listing) (t : Track) {a b r : Cause} (p : Stands S t a) (q : Stands S t b) where
   pub first-stands : Least a b r → Stands S t r
   first-stands (inl (e, h)) = subst (Stands S t) (sym e) p

@@ -1,7 +1,7 @@
 -- Looking at one cause more. Main theorems: `edge-first`, `wall-next`, `tip-looked`, and `walls-then`, `then` (one look after another).
 use mathlib.Core.List.{List}
 use mathlib.Core.Logic.{_⊎_, inl, inr, _≢_}
-use mathlib.Core.Path.{_≡_, refl, sym, subst}
+use mathlib.Core.Path.{_≡_, refl, sym, ap, subst}
 use Prim.Native.Nat.{ℕ, zero, suc, _<_}
 use native.Mathlib.Omega.{arith}
 use lib.ListN.{length}
@@ -14,19 +14,19 @@ use Rattle.sheet.specs.Listing.{Listing, _∈_}
 use Rattle.sheet.specs.HandedIn.{noTrack, noWall}
 use Rattle.sheet.specs.declared.Track.{Track}
 use Rattle.sheet.specs.declared.Wall.{Wall}
-use Rattle.sheet.proofs.Lists.{mem-at}
+use Rattle.sheet.proofs.Lists.{mem-at, at-mem}
 use Rattle.contact.specs.Answers.{TouchTimely}
 use Rattle.contact.specs.declared.Touch.{Touch}
 use Rattle.contact.specs.declared.Touch.the-variants.{Nowhere, Hit}
 use Rattle.rule.specs.declared.Row.{Row}
 use Rattle.rule.specs.Causes as rule
-use Rattle.rule.specs.Causes.{by-tip, by-side, by-rim, Below, _≼_, upTo}
+use Rattle.rule.specs.Causes.{Cand, by-tip, by-side, by-rim, Below, _≼_, upTo}
 use Rattle.rule.specs.Contact.{when, never, hit, contact}
 use Rattle.rule.specs.EdgeTime.{rim}
 use Rattle.rule.specs.WallTime.{wallTime}
 use Rattle.rule.proofs.Existence.{cand-trans}
 use Rattle.rule.proofs.OnSheet.{contact-of, contact-hit}
-use Rattle.rule.specs.Meanwhile.{Beats, Fresh, Live}
+use Rattle.rule.specs.Meanwhile.{Formal, Beats, Fresh, Live}
 use Rattle.rule.proofs.Selection.{up-fresh}
 use Rattle.rule.proofs.Turn.{beats-better, beats-none, beats-hit, beats-void}
 use Rattle.cause.specs.declared.Cause.{Cause}
@@ -67,6 +67,16 @@ module _ (S : Listing) (a : Track) where
 
   pub edge-first : {c : Cause} → AtEdge a c → OfEdge S a c
   edge-first e = subst (OfEdge S a) (sym (e .is)) (edge-stands (e .u) (e .timely) (e .last))
+
+-- without walls, what is no track is the edge
+pub bare-edge : (S : Listing) (a : Track) (c : Cause) → length (S .walls) ≡ 0 → Stands S a c → 0 < c .class → candOf S c ≡ record { u = rim a; why = by-rim }
+unfolding whyOf
+bare-edge S a c z t h = go (c .class) h (t .formal)
+  where
+    go : (k : ℕ) → 0 < k → Formal S a (asTime (c .at)) (whyOf S k (c .who) (asTime (c .there))) → _≡_ {A = Cand} (record { u = asTime (c .at); why = whyOf S k (c .who) (asTime (c .there)) }) (record { u = rim a; why = by-rim })
+    go zero l f = absurd (omega arith)
+    go (suc zero) l (m, e) = absurd (let (i, b, x) = at-mem noWall (S .walls) (wallAt S (c .who)) m in omega arith)
+    go (suc (suc k)) l e = ap (λ (u : Time). record { u = u; why = by-rim }) e
 
 -- ---- walls
 

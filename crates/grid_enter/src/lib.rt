@@ -27,7 +27,7 @@ pub fn enter(
     grid_meet::meet(records, side, i, members, cell, tips, queue, marks);
     cell_members::join(members, cell, i);
     tips::put_cell(tips, i, k);
-    grid_steps::put_back(records, side, i, tips, queue);
+    grid_steps::schedule(records, side, i, tips, queue);
 }
 
 // The tip at i begins, in the cell of its start.

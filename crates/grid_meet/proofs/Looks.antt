@@ -1,11 +1,13 @@
 -- The tip at i, on its way, and the tip at j look at each other: what the steps ask, and what they give. Main theorems: `is-noticed`, `is-paired`.
 use mathlib.Core.Logic.{_≢_, inl, inr}
 use mathlib.Core.List.{List, [], _∷_, List·Memᴰ·head}
-use mathlib.Core.Option.{none, some}
+use mathlib.Core.Option.{Option, none, some}
 use mathlib.Core.Path.{_≡_, refl, sym, ap, subst, _∙_}
-use Prim.Native.Nat.{ℕ, zero, suc, _<_}
+use Prim.Native.Nat.{ℕ, _<_}
 use native.Mathlib.Omega.{arith}
-use lib.ListN.{length, getD, set}
+use lib.ListN.{set}
+use lib.Seq.{set-getD}
+use Rattle.event_queue.specs.declared.Entry.{Entry}
 use Rattle.fraction.specs.declared.Fraction.{Fraction}
 use Rattle.sheet.specs.declared.Track.{Track}
 use Rattle.sheet.specs.Listing.{Listing}
@@ -15,7 +17,7 @@ use Rattle.cause.specs.declared.Cause.{Cause}
 use Rattle.cause.specs.Cause.{tipAt}
 use Rattle.cause.specs.Offer.{TipOffered, Taken}
 use Rattle.pending_events.specs.Pending.{pendingEntry}
-use Rattle.event_queue.specs.Queue.{Slots, Queue, slots, Held, Holds}
+use Rattle.event_queue.specs.Queue.{Slots, Queue, slots, Holds}
 use Rattle.tips.specs.Tips as tips
 use Rattle.tips.specs.Tips.{Tip, tipIn, tipsIn}
 use Rattle.pair_marks.specs.Marks as marks
@@ -24,7 +26,7 @@ use Rattle.grid_steps.specs.Steps.{MayLook, MayEnter, Offered, entryIn}
 use Rattle.grid_state.specs.Sweep.{Crowd, crowdIn, Crowded}
 use Rattle.grid_state.specs.State.{Runs}
 use Rattle.grid_state.specs.Meeting.{Noticed, looks, Paired, known, looked, Frame, Busy, MayMeet}
-use Rattle.grid_state.proofs.Queue.{slot-in, tip-same}
+use Rattle.grid_state.proofs.Queue.{tip-same}
 use Rattle.grid_state.proofs.Meeting.{begun-place, look-own, look-other}
 use Rattle.grid_meet.specs.Meeting.{MayNotice}
 
@@ -54,9 +56,6 @@ module _ {S : Listing} {side i j : ℕ} {ts : List Tip} {s : Slots} (m : MayNoti
   notice-in = begun-place (m .busy) j (m .begun) .1
 
   module _ (r : tipIn ts j .ended ≡ 0) where
-    pub notice-held : Held s j
-    notice-held = record { old = entryIn S side ts j; held = m .busy .queued .due j (m .begun, r) (m .apart) }
-
     pub notice-enter : {ts′ : List Tip} → Offered S j i ts ts′ → MayEnter S side ts′ j
     notice-enter {ts′} o =
         let b = look-other (m .busy) j (m .begun) (m .apart) {s′ = set s j (some (entryIn S side ts′ j))} (looks r o refl) in
@@ -75,11 +74,6 @@ same-cause {b = b} {k} {c = c} {r} o n = go (o .touch) (o .taken)
     go (Hit u s) (inl (e, _)) = e
     go (Hit u s) (inr (e, _)) = absurd (n (ap (λ (d : Cause). d .class) e) (ap (λ (d : Cause). d .who) e))
 
-set-same : {A : Type 0} (l : List A) (i : ℕ) (d x : A) → getD l i d ≡ x → i < length l → set l i x ≡ l
-set-same [] i d x e h = absurd (omega arith)
-set-same (y ∷ l) zero d x e h = ap (λ (z : _). z ∷ l) (sym e)
-set-same (y ∷ l) (suc i) d x e h = ap (λ (z : List _). y ∷ z) (set-same l i d x e (omega arith))
-
 module _ {S : Listing} {side i j : ℕ} {ts ts′ : List Tip} {s : Slots} (m : MayNotice S side i j ts s) (r : tipIn ts j .ended ≡ 0) (o : Offered S j i ts ts′) where
   new-tip : tipIn ts′ j ≡ record { best = o .cause; base = tipIn ts j .base; ended = tipIn ts j .ended; cell = tipIn ts j .cell }
   new-tip = ap (λ (z : List Tip). tipIn z j) (o .stored) ∙ tip-same ts j _ (omega (arith, notice-in m, m .busy .looked .long))
@@ -93,7 +87,7 @@ module _ {S : Listing} {side i j : ℕ} {ts ts′ : List Tip} {s : Slots} (m : M
       let k = same-cause (o .offered) (subst (λ (d : Cause). d .class ≡ 0 → d .who ≡ i → ⊥) f n) in
       let q : entryIn S side ts′ j ≡ entryIn S side ts j = ap (λ (t : Tip). pendingEntry (tipAt S j) side (t .cell) (t .best)) new-tip ∙ ap (λ (d : Cause). pendingEntry (tipAt S j) side (tipIn ts j .cell) d) k in
       let h = m .busy .queued .due j (m .begun, r) (m .apart) in
-      looks r o (sym (set-same s j none (some (entryIn S side ts′ j)) (h ∙ ap some (sym q)) (slot-in s j h)))
+      looks r o (sym (ap (λ (x : Option Entry). set s j x) (sym (h ∙ ap some (sym q))) ∙ set-getD s j none))
 
 -- ---- both, once
 

@@ -21,7 +21,7 @@ fn notice(records: &[u16], side: u64, i: usize, j: usize, tips: &mut [u64], queu
         // Most tips never meet: only a cause that is the tip at i makes the event another.
         if c.class == 0 {
             if c.who == i as u64 {
-                grid_steps::retime(records, side, j, tips, queue);
+                grid_steps::schedule(records, side, j, tips, queue);
             }
         }
     }

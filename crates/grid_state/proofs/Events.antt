@@ -35,7 +35,7 @@ use Rattle.event_queue.specs.declared.Event.{Event}
 use Rattle.event_queue.specs.declared.Event.the-variants as event
 use Rattle.event_queue.specs.declared.Key.{Key}
 use Rattle.event_queue.specs.Key.{time}
-use Rattle.event_queue.specs.Queue.{Slots, First, Free}
+use Rattle.event_queue.specs.Queue.{Slots, First}
 use Rattle.pending_events.specs.Pending.{eventOf}
 use Rattle.tips.specs.Tips.{Tip, tipIn}
 use Rattle.look.specs.Ends.{endOf}
@@ -128,10 +128,6 @@ module _ {S : Listing} {g k : ℕ} {w : Sweep} (go : Going S g k w) {r : ℕ} {e
   -- what the test of its cause asks
   pub event-tell : MayTell (w .crowd .tips) r
   event-tell = may-tell (st .accepted) (st .looked) r event-runs
-
-  -- it has left the queue
-  pub event-free : {q : Slots} → q ≡ set (w .crowd .pending) r none → Free q r
-  event-free z = subst (λ (x : Slots). Free x r) (sym z) (record { tip-in = event-here .1; free = left .queued .idle r (λ u. refl) })
 
   -- ---- what kind it is
 

@@ -14,18 +14,20 @@ use Rattle.sheet.specs.HandedIn.{noTrack}
 use Rattle.sheet.specs.Listing.{Listing, _∈_}
 use Rattle.sheet.proofs.Lists.{mem-at}
 use Rattle.rule.specs.declared.Row.{Row}
+use Rattle.rule.specs.Causes.{Cand, _≼_}
 use Rattle.rule.specs.EdgeTime.{rim}
 use Rattle.rule.proofs.Turn.{progress-start}
 use Rattle.cause.specs.declared.Cause.{Cause}
-use Rattle.cause.specs.Cause.{tipAt, Fine, Least}
-use Rattle.cause.proofs.Looking.{OfEdge, walls-live}
+use Rattle.cause.specs.Cause.{tipAt, candOf, Fine, Least}
+use Rattle.cause.proofs.First.{below-comes}
+use Rattle.cause.proofs.Looking.{OfEdge, walls-live, bare-edge}
 use Rattle.cells.specs.declared.Cell.{Cell}
 use Rattle.cells.specs.Grid.{Figure, side}
 use Rattle.cells.specs.Walk.{first}
 use Rattle.cells.proofs.Count.{first-good}
 use Rattle.cells.specs.Entered.{Entered}
 use Rattle.cells.proofs.Entered.{entered-first}
-use Rattle.event_queue.specs.Queue.{Slots, Free}
+use Rattle.event_queue.specs.Queue.{Slots}
 use Rattle.tips.specs.Tips.{Tip, tipIn, withBest, withBase, withCell}
 use Rattle.pair_marks.specs.Marks.{Marked}
 use Rattle.grid_steps.specs.Steps.{InGrid, MayLookHere, MayEnter, Offered, Here, entryIn}
@@ -86,7 +88,17 @@ module _ {S : Listing} {side b i : ℕ} {k : Cell} {done : List Row} {es : List 
 
   -- what `look_here` asks
   pub way-looks : MayLookHere S (w .crowd .tips) i
-  way-looks = record { tip-in = way-place .0; fine = y .state .looked .fine i (y .runs .0); base = y .state .looked .base i (y .runs) .walls .stands }
+  way-looks =
+      let base = y .state .looked .base i (y .runs) in
+      let best = y .state .looked .best i (y .runs) .walls in
+      record {
+        tip-in = way-place .0;
+        fine = y .state .looked .fine i (y .runs .0);
+        base = base .walls .stands;
+        bare = λ z.
+            below-comes S (tipAt S i) (best .stands) (base .walls .stands)
+            (subst (λ (d : Cand). candOf S (tipIn (w .crowd .tips) i .best) ≼ d) (sym (bare-edge S (tipAt S i) (tipIn (w .crowd .tips) i .base) z (base .walls .stands) (base .no-track))) (best .at-rim));
+      }
 
   pub way-code : codeOf k < CELLS
   way-code = omega (arith, y .in-grid .column-in, y .in-grid .row-in)
@@ -176,9 +188,6 @@ module _ {S : Listing} {side b i : ℕ} {k : Cell} {done : List Row} {es : List 
             fine = subst (λ (t : Tip). Fine (t .best)) (sym own) (has-met .busy .looked .fine i (y .runs .0));
             id-in = subst (λ (t : Tip). t .best .id ≤ 65535) (sym own) (has-met .busy .looked .best i (has-met .busy .runs) .walls .stands .id-in);
           }
-
-      pub way-free : Free (met .pending) i
-      way-free = record { tip-in = way-place .1; free = has-met .busy .queued .idle i (λ r. refl) }
 
   -- and is there
   module _ {w′ : Sweep} (e : Enters S side i k w w′) where

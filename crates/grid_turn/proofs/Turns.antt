@@ -31,7 +31,7 @@ use Rattle.grid_steps.specs.Steps.{entryIn}
 use Rattle.grid_state.specs.Sweep.{Sweep, crowdIn, sweepIn, Crowded, Swept}
 use Rattle.grid_state.specs.Run.{Way, Going}
 use Rattle.grid_state.specs.Meeting.{Enters}
-use Rattle.grid_state.proofs.Events.{altered, Onward, event-here, event-stands, event-tell, event-free, track-event, wall-event, edge-event, entry-time, event-way, going-entered}
+use Rattle.grid_state.proofs.Events.{altered, Onward, event-here, event-stands, event-tell, track-event, wall-event, edge-event, entry-time, event-way, going-entered}
 use Rattle.grid_state.proofs.Events.{again-looks, again-enters, going-again, fresh-counts, wall-counts, edge-counts, ended-row, ended-room, ended-endable, going-ended}
 use Rattle.grid_turn.specs.declared.Outcome.the-variants.{Rows, Over}
 use Rattle.ending.specs.Finished.{MayEnd, Finished}
@@ -168,7 +168,6 @@ module _ {S : Listing} {g k : ℕ} {t q m ms : List ℕ} (h : Swept (Going S g k
                 tell = event-tell (h .holds) first;
                 look = again-looks (h .holds) first;
                 enter = λ ts a. again-enters (h .holds) first a;
-                free = event-free (h .holds) first left;
                 end = λ s. may-end (track-event (h .holds) first c .0) (fresh-counts (h .holds) first s);
               };
             }

@@ -10,7 +10,6 @@ use Rattle.rule.specs.declared.Ending.{Ending}
 use Rattle.cause.specs.Cause.{Fine}
 use Rattle.ending.specs.Ended.{EndingOf}
 use Rattle.ending.specs.Finished.{MayEnd, Finished}
-use Rattle.event_queue.specs.Queue.{Free}
 use Rattle.tips.specs.Tips.{Tip, tipIn}
 use Rattle.look.specs.Counts.{MayTell, stale}
 use Rattle.look.specs.Tracks.{MayLookOn, LookedAgain}
@@ -31,7 +30,6 @@ pub record MayReach (S : Listing) (side i id k : ℕ) (w : Crowd) : Type 0 where
   pub tell : MayTell (w .tips) i
   pub look : MayLookOn S (w .tips) i (tipIn (w .tips) i .base)
   pub enter : (ts : List Tip) → LookedAgain S i (getD (w .marks) i []) (w .tips) ts → MayEnter S side ts i
-  pub free : Free (w .pending) i
   pub end : stale (w .tips) i ≡ false → MayEnd S i k (w .tips)
 
 -- it has looked again, and has a pending event again; or it has ended

@@ -46,7 +46,7 @@ fn reach(
     if look::stale(tips, i) {
         let known = pair_marks::row_of(marks, i);
         look::look_again(records, i, tips, known);
-        grid_steps::put_back(records, side, i, tips, queue);
+        grid_steps::schedule(records, side, i, tips, queue);
         return rows;
     }
     let ending = by_track(tips, i, id);

@@ -1,6 +1,6 @@
 -- `enter`: the tip looks at the walls of the cell, meets its tips, joins them, and has its next event.
 use mathlib.Core.Path.{refl}
-use Rattle.grid_state.proofs.Ways.{way-place, way-looks, way-code, way-count, way-meet, way-back, way-free}
+use Rattle.grid_state.proofs.Ways.{way-place, way-looks, way-code, way-count, way-meet, way-back}
 use borrow.Author.Needs.{needs}
 use Rattle.grid_enter.proofs.enter.Statement.{statement}
 use Rattle.grid_enter.proofs.enter.Tie as tie
@@ -35,8 +35,8 @@ put-cell-requires c κs =
     let entry = met .before .before .before .before .before .before .before .before .before .before .before .before .before .before .before .before in
     (met .meet .ensures .tips-room, way-place (entry .pre .1 .holds .way) .1)
 
-put-back-requires : tie.Need-put-back-requires
-put-back-requires c κs =
+schedule-requires : tie.Need-schedule-requires
+schedule-requires c κs =
     let cell = c .before .before .before .before in
     let met = cell .before .before .before .before .before .before .before .before .before .before .before .before in
     let seen = met .before .before .before .before .before .before .before in
@@ -44,7 +44,7 @@ put-back-requires c κs =
     let w = p .1 .holds .way in
     let here = seen .look-here .ensures in
     let m = met .meet .ensures in
-    (p .0, search needs, way-back w here (m .holds) (cell .put-cell .ensures), m .queue, way-free w here (m .holds))
+    (p .0, search needs, way-back w here (m .holds) (cell .put-cell .ensures), m .queue)
 
 same-length : tie.Need-same-length
 same-length c = search needs
@@ -65,7 +65,7 @@ returns c =
     let joined = cell .before .before .before .before in
     let met = joined .before .before .before .before .before .before .before .before in
     let seen = met .before .before .before .before .before .before .before in
-    let q = back .put-back .ensures in
+    let q = back .schedule .ensures in
     let j = joined .join .ensures in
     let m = met .meet .ensures in
     record {
@@ -96,7 +96,7 @@ enter-spec =
     meet-requires
     join-requires
     put-cell-requires
-    put-back-requires
+    schedule-requires
     same-length
     same-length-2
     same-length-3

@@ -2,7 +2,7 @@
 use mathlib.Core.Path.{refl, sym, _∙_}
 use borrow.Author.Needs.{needs}
 use Rattle.grid_state.specs.Meeting.{has-ended}
-use Rattle.grid_meet.proofs.Looks.{notice-look, notice-held, notice-enter, is-noticed, kept-noticed}
+use Rattle.grid_meet.proofs.Looks.{notice-look, notice-enter, is-noticed, kept-noticed}
 use Rattle.grid_meet.proofs.notice.Statement.{statement}
 use Rattle.grid_meet.proofs.notice.Tie as tie
 
@@ -15,11 +15,11 @@ offer-requires c κs = let p = c .before .before .before .before .before .before
 best-of-requires : tie.Need-best-of-requires
 best-of-requires c κs = search needs
 
-retime-requires : tie.Need-retime-requires
-retime-requires c κs =
+schedule-requires : tie.Need-schedule-requires
+schedule-requires c κs =
     let p = c .before .before .before .before .before .before .before .before .before .before .before .before .before .before .before .before .before .before .pre in
     let r = sym (c .before .before .before .before .before .before .before .before .before .before .before .before .before .ended .ensures) ∙ c .before .before .before .before .before .before .before .before .before .before .before .before .if1 .taken in
-    (p .0, search needs, notice-enter (p .3) r (c .before .before .before .before .before .before .before .before .before .before .offer .ensures), p .2, notice-held (p .3) r)
+    (p .0, search needs, notice-enter (p .3) r (c .before .before .before .before .before .before .before .before .before .before .offer .ensures), p .2)
 
 same-length : tie.Need-same-length
 same-length c = search needs
@@ -30,7 +30,7 @@ same-length-2 c = search needs
 returns : tie.Need-returns
 returns c =
     let r = sym (c .before .before .before .before .before .before .before .before .before .before .before .before .before .before .before .before .ended .ensures) ∙ c .before .before .before .before .before .before .before .before .before .before .before .before .before .before .before .if1 .taken in
-    is-noticed r (c .before .before .before .before .before .before .before .before .before .before .before .before .before .offer .ensures) (c .before .before .retime .ensures)
+    is-noticed r (c .before .before .before .before .before .before .before .before .before .before .before .before .before .offer .ensures) (c .before .before .schedule .ensures)
 
 same-length-3 : tie.Need-same-length-3
 same-length-3 c = search needs
@@ -63,7 +63,7 @@ notice-spec =
     ended-requires
     offer-requires
     best-of-requires
-    retime-requires
+    schedule-requires
     same-length
     same-length-2
     returns

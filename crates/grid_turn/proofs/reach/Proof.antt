@@ -19,9 +19,9 @@ look-again-requires c κs = let o = c .before .before .before .before .before .b
     let h = o .pre .1 in
     (o .pre .0, h .tips-room, ap length (c .before .row-of .ensures) ∙ row-long (o .args .marks .now) (o .args .i) (h .holds .of-track .tip-in), h .holds .look)
 
-put-back-requires : tie.Need-put-back-requires
-put-back-requires c κs = let h = c .before .before .before .before .before .before .before .before .before .before .before .before .before .before .before .pre .1 in
-    (c .before .before .before .before .before .before .before .before .before .before .before .before .before .before .before .pre .0, search needs, h .holds .enter _ (again-by (c .before .before .before .before .before .before .row-of .ensures) (c .before .before .before .before .look-again .ensures)), h .queue, h .holds .free)
+schedule-requires : tie.Need-schedule-requires
+schedule-requires c κs = let h = c .before .before .before .before .before .before .before .before .before .before .before .before .before .before .before .pre .1 in
+    (c .before .before .before .before .before .before .before .before .before .before .before .before .before .before .before .pre .0, search needs, h .holds .enter _ (again-by (c .before .before .before .before .before .before .row-of .ensures) (c .before .before .before .before .look-again .ensures)), h .queue)
 
 same-length : tie.Need-same-length
 same-length c = search needs
@@ -33,9 +33,9 @@ returns : tie.Need-returns
 returns c = let h = c .before .before .before .before .before .before .before .before .before .before .before .before .before .before .before .before .before .before .pre .1 in
     record {
       tips-room = search needs;
-      queue = c .before .before .put-back .ensures .queue;
+      queue = c .before .before .schedule .ensures .queue;
       marks-room = h .marks-room;
-      holds = again (sym (c .before .before .before .before .before .before .before .before .before .before .before .stale .ensures) ∙ c .before .before .before .before .before .before .before .before .before .before .if1 .taken) (again-by (c .before .before .before .before .before .before .before .before .before .row-of .ensures) (c .before .before .before .before .before .before .before .look-again .ensures)) (c .before .before .put-back .ensures .holds) refl refl;
+      holds = again (sym (c .before .before .before .before .before .before .before .before .before .before .before .stale .ensures) ∙ c .before .before .before .before .before .before .before .before .before .before .if1 .taken) (again-by (c .before .before .before .before .before .before .before .before .before .row-of .ensures) (c .before .before .before .before .before .before .before .look-again .ensures)) (c .before .before .schedule .ensures .holds) refl refl;
     }
 
 by-track-requires : tie.Need-by-track-requires
@@ -67,7 +67,7 @@ reach-spec =
     stale-requires
     row-of-requires
     look-again-requires
-    put-back-requires
+    schedule-requires
     same-length
     same-length-2
     returns
