@@ -14,6 +14,9 @@ pub const LONGEST_ROLL: usize = 256 * ROW;
 pub const LONGEST_CELL: usize = 256 * 2;
 /// Room for the ordered form of any sheet: 256 tracks, 256 walls and the end.
 pub const LONGEST_SHEET: usize = 256 * 9 + 256 * 11 + 1;
+/// So many bytes of an input are enough to read: they decide its answer, however long it is (SHEETS 2.10).
+/// One command more than the longest sheet has, and a byte behind it.
+pub const ENOUGH: usize = LONGEST_SHEET - 1 + 11 + 1;
 
 /// What an accepted call of the grid run gives.
 #[derive(Clone, Copy, Debug, PartialEq, Eq)]

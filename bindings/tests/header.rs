@@ -1,6 +1,6 @@
 //! The names of fissures.h and those here stand for the same numbers.
 
-use fissures::{numbers, Place, Refusal, Row, LONGEST_CELL, LONGEST_ROLL, LONGEST_SHEET, ROW};
+use fissures::{numbers, Place, Refusal, Row, ENOUGH, LONGEST_CELL, LONGEST_ROLL, LONGEST_SHEET, ROW};
 use std::collections::BTreeMap;
 
 /// Each name of the header with its number: `#define NAME 1`, or `NAME = 1` in an enum.
@@ -50,6 +50,7 @@ fn same_numbers() {
         ("LONGEST_ROLL", LONGEST_ROLL),
         ("LONGEST_CELL", LONGEST_CELL),
         ("LONGEST_SHEET", LONGEST_SHEET),
+        ("ENOUGH", ENOUGH),
         ("SESSION", numbers::SIZE),
     ];
     let lengths = lengths.map(|(name, length)| (name, length as u64));

@@ -10,7 +10,7 @@
 
 #include "fissures.h"
 
-static uint8_t sheet[5132];
+static uint8_t sheet[FISSURE_ENOUGH];
 
 /* Name lists: id (2 bytes), length (1), the name. */
 static const uint8_t track_names[] = "\1\0\5north\2\0\4east\3\0\5south";

@@ -9,8 +9,7 @@
 
 #include "fissures.h"
 
-/* The first 5,131 bytes decide every sheet: 256 tracks, 256 walls, and one command more with its operands. */
-static uint8_t sheet[5132];
+static uint8_t sheet[FISSURE_ENOUGH];
 static uint8_t roll[FISSURE_LONGEST_ROLL];
 
 /* The number that some bytes stand for, low byte first. */

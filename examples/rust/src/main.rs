@@ -3,16 +3,12 @@
 //!   rt staticlib fissures_c
 //!   cargo run --release --offline -p roll < examples/A.sheet
 
-use fissures::{GridRoll, Row, LONGEST_ROLL};
+use fissures::{GridRoll, Row, ENOUGH, LONGEST_ROLL};
 use std::io::{stdin, Read, Result};
-
-/// The first 5,131 bytes decide every sheet: 256 tracks, 256 walls, and one command more with its
-/// operands.
-const ENOUGH: u64 = 5132;
 
 fn main() -> Result<()> {
     let mut sheet = Vec::new();
-    stdin().take(ENOUGH).read_to_end(&mut sheet)?;
+    stdin().take(ENOUGH as u64).read_to_end(&mut sheet)?;
     let mut roll = [0; LONGEST_ROLL];
     match fissures::grid(&sheet, 8, &mut roll) {
         Ok(GridRoll { rows, cells }) => {
