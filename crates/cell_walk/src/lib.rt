@@ -128,7 +128,7 @@ fn column_exit(x: u16, v: i8, s: u64, col: u64) -> Onset
 }
 
 // From when on tip a has been in cell k of side s, if it ever is.
-pub fn cell_entry(a: Track, s: u64, k: Cell) -> Onset
+fn cell_entry(a: Track, s: u64, k: Cell) -> Onset
     requires { ⌜ TrackOk a × (s ≤ 4096) × Near k ⌝ }
     ensures { λ r. ⌜ Gives (onsetOf (entry a s k)) r ⌝ }
 {
@@ -139,7 +139,7 @@ pub fn cell_entry(a: Track, s: u64, k: Cell) -> Onset
 }
 
 // From when on it has left the cell.
-pub fn cell_exit(a: Track, s: u64, k: Cell) -> Onset
+fn cell_exit(a: Track, s: u64, k: Cell) -> Onset
     requires { ⌜ TrackOk a × (s ≤ 4096) × Near k ⌝ }
     ensures { λ r. ⌜ Gives (onsetOf (exit a s k)) r ⌝ }
 {

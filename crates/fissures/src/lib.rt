@@ -23,6 +23,7 @@ pub use plain_run::plain_roll;
 pub use plain_run::plain_roll_bytes;
 
 // Its rows, read back from bytes and printed.
+pub use fraction::Fraction;
 pub use row::Stored;
 pub use row::row_at;
 pub use rule::Ending;

@@ -31,7 +31,7 @@ fn end_of(at: usize, t: Answer) -> usize
 }
 
 // The first line of a roll.
-pub fn put_head(tracks: usize, cells: u64, out: &mut [u8]) -> usize
+fn put_head(tracks: usize, cells: u64, out: &mut [u8]) -> usize
     requires { ⌜ longestHead ≤ length (now out) ⌝ }
     ensures { λ r. ⌜ Behind (headOf tracks cells) 0 (now (out .entry)) r (now (out .exit)) × (r ≤ longestHead) ⌝ }
 {

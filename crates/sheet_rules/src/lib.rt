@@ -43,7 +43,7 @@ fn bad_speed(a: Track) -> bool
 }
 
 // 4: a coordinate above 4095.
-pub fn off_sheet(c: Command) -> bool
+fn off_sheet(c: Command) -> bool
     ensures { λ r. ⌜ r ≡ table.offSheet c ⌝ }
 {
     match c {
@@ -53,7 +53,7 @@ pub fn off_sheet(c: Command) -> bool
 }
 
 // 5: a speed outside −63 to 63, or both speeds 0.
-pub fn wrong_speed(c: Command) -> bool
+fn wrong_speed(c: Command) -> bool
     ensures { λ r. ⌜ r ≡ table.wrongSpeed c ⌝ }
 {
     match c {
@@ -63,7 +63,7 @@ pub fn wrong_speed(c: Command) -> bool
 }
 
 // 6: the wall's two ends are one point.
-pub fn equal_ends(c: Command) -> bool
+fn equal_ends(c: Command) -> bool
     ensures { λ r. ⌜ r ≡ table.equalEnds c ⌝ }
 {
     match c {
@@ -118,7 +118,7 @@ fn forward(d: i32, v: i32) -> bool
 }
 
 // p between a and b, both included.
-pub fn between(a: u16, b: u16, p: u16) -> bool
+fn between(a: u16, b: u16, p: u16) -> bool
     ensures { λ r. ⌜ r ≡ table.between a b p ⌝ }
 {
     ((a <= p) & (p <= b)) | ((b <= p) & (p <= a))
@@ -137,7 +137,7 @@ fn in_line(a: Track, w: Wall) -> bool
 }
 
 // The start of a is on the wall w (SHEETS 3.5).
-pub fn start_on(a: Track, w: Wall) -> bool
+fn start_on(a: Track, w: Wall) -> bool
     ensures { λ r. ⌜ r ≡ table.startOn a w ⌝ }
 {
     if in_line(a, w) {
@@ -163,14 +163,14 @@ fn speed(v: i8) -> i32
 }
 
 // The start of b is on the line of tip a, and not behind it.
-pub fn ahead(a: Track, b: Track) -> bool
+fn ahead(a: Track, b: Track) -> bool
     ensures { λ r. ⌜ r ≡ table.ahead a b ⌝ }
 {
     onward(gap(a.x, b.x), gap(a.y, b.y), speed(a.vx), speed(a.vy))
 }
 
 // The two tips face each other (SHEETS 3.6).
-pub fn facing(a: Track, b: Track) -> bool
+fn facing(a: Track, b: Track) -> bool
     ensures { λ r. ⌜ r ≡ table.facing a b ⌝ }
 {
     if ahead(a, b) {
