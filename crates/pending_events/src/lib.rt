@@ -3,7 +3,6 @@ ghost use mathlib.Core.Path.{_≡_};
 ghost use Prim.Native.Nat.{_≤_, _<_};
 ghost use Rattle.sheet.specs.Accepted.{TrackOk};
 ghost use Rattle.cause.specs.Cause.{Fine};
-ghost use Rattle.cells.specs.Walk.{next};
 ghost use Rattle.fraction.specs.Sizes.{Timely};
 ghost use Rattle.pending_events.specs.Pending.{pendingEntry, reachedOf};
 use cause::Cause;
