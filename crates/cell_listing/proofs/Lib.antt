@@ -1,9 +1,11 @@
 pub mod Ends
-pub mod Ids
 pub mod Figures
 pub mod Rolling
-pub mod Outcome
 pub mod Copying
-pub mod Picking
-pub mod TheListing
-pub mod Worked
+pub mod IdBytes
+pub mod Calling
+pub mod Lining
+pub mod EntryOrder
+pub mod TheIds
+pub mod CalledOut
+pub mod Outcome

@@ -1,4 +1,4 @@
 pub mod CellIds
 pub mod Ends
-pub mod Picked
 pub mod Listed
+pub mod Waiting

@@ -1,4 +1,4 @@
--- What the code's onsets are of the cuts of crate `cells`: `rise-yes` to `fall-no` for one border, `entry-by`, `exit-by` and `has-by` for a cell.
+-- What the code's onsets are of the cuts of crate `cells`: `rise-yes` to `fall-no` for one border, `entry-by`, `exit-by`, `arrives` and `never` for a cell.
 use mathlib.Core.Path.{_≡_, refl, sym, ap, ap₂, _∙_, subst}
 use mathlib.Core.Bool.{Bool, true, false, cond}
 use Prim.Native.Nat.{ℕ, suc, pred, _+_, _*_, _-_, _≤_, _<_}
@@ -15,13 +15,14 @@ use Rattle.fraction.proofs.Bounds.{fits-nat, bounded-back}
 use Rattle.sheet.specs.declared.Track.{Track}
 use Rattle.sheet.specs.Accepted.{TrackOk}
 use Rattle.cells.specs.declared.Cell.{Cell}
-use Rattle.cells.specs.Touched.{HasPoint}
 use Rattle.cells.specs.Cut.{Cut, before, later, sooner, past}
 use Rattle.cells.specs.OneCell.{border, enter, leave, entry, exit, hasPoint}
 use Rattle.cells.proofs.Border.{Numbers, start-numbers, up-start, down-start, up-numbers, down-numbers}
-use Rattle.cells.proofs.Entry.{has-point-true, has-point-false}
+use Rattle.cells.proofs.Entry.{has-point-true, point-den}
 use Rattle.cell_walk.specs.declared.Onset.{Onset}
-use Rattle.cell_walk.specs.Onsets.{onset, onsetOf, Ready, Gives, priorOf, laterOf, soonerOf, fall, Answers}
+use Rattle.cell_walk.specs.declared.Arrival.the-variants.{At, Never}
+use Rattle.cell_walk.specs.Arrivals.{arrivalOf, Arrives}
+use Rattle.cell_walk.specs.Onsets.{onset, onsetOf, Ready, Gives, priorOf, laterOf, soonerOf, fall}
 
 -- ---- one border
 
@@ -132,7 +133,19 @@ module _ (a : Track) (s : ℕ) (k : Cell) where
       ap (λ (z : Onset). priorOf (onsetOf (entry a s k)) z) (ap (λ (z : Onset). soonerOf (onsetOf (exit a s k)) z) (past-is t p) ∙ is-sooner (exit a s k) (past (asTime t))) ∙
       sym (is-before (entry a s k) (sooner (exit a s k) (past (asTime t))))
 
-  pub has-by : (t : Fraction) → Timely t → {i j m : Onset} {b : Bool} → Gives (onsetOf (entry a s k)) i → Gives (onsetOf (exit a s k)) j → Gives (soonerOf j (onset t 1)) m → b ≡ priorOf i m → Answers (HasPoint a (asTime t) s k) b
-  has-by t p {b = b} g h e f =
-      let q : b ≡ hasPoint a (asTime t) s k = f ∙ ap₂ priorOf (g .is) (e .is ∙ ap (λ (z : Onset). soonerOf z (onset t 1)) (h .is)) ∙ has-is t (p .den-pos) in
-      record { yes = λ u. has-point-true (sym q ∙ u); no = λ u. has-point-false (sym q ∙ u) }
+  module _ (t : Fraction) (p : Timely t) {i j m : Onset} {b : Bool} (g : Gives (onsetOf (entry a s k)) i) (h : Gives (onsetOf (exit a s k)) j) (e : Gives (soonerOf j (onset t 1)) m) (f : b ≡ priorOf i m) where
+    told : b ≡ hasPoint a (asTime t) s k
+    told = f ∙ ap₂ priorOf (g .is) (e .is ∙ ap (λ (z : Onset). soonerOf z (onset t 1)) (h .is)) ∙ has-is t (p .den-pos)
+
+    pub arrives : b ≡ true → Arrives a (asTime t) s k (At (i .at))
+    unfolding arrivalOf
+    arrives u =
+        let y = sym told ∙ u in
+        record {
+          is = rw y (ap (λ (z : Onset). At (z .at)) (g .is));
+          comparable = record { num-in = g .ready .num-in; den-in = g .ready .den-in; den-pos = subst (λ (z : Onset). 0 < z .at .den) (sym (g .is)) (point-den (has-point-true y)) };
+        }
+
+    pub never : b ≡ false → Arrives a (asTime t) s k Never
+    unfolding arrivalOf
+    never u = record { is = rw (sym told ∙ u) refl; comparable = tt }

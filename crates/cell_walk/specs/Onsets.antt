@@ -1,6 +1,6 @@
 -- The cuts of crate `cells` as the code holds them: a fraction and a bit. What they say of cells is in that crate; `onsetOf` ties them.
 use mathlib.Core.Path.{_≡_}
-use mathlib.Core.Bool.{Bool, true, false, cond}
+use mathlib.Core.Bool.{Bool, cond}
 use Prim.Native.Nat.{ℕ, pred, _+_, _*_, _≤_, _<_}
 use lib.Dec.{ltb}
 use lib.IntN.{ℤ, pos, negsuc}
@@ -81,8 +81,3 @@ turnOf lx ly u v k =
 -- the next cell, entered when k is left
 abbrev pub crossOf : Track → ℕ → Cell → Crossing
 crossOf a s k = record { when = onsetOf (exit a s k); cell = next a s k }
-
--- r says whether P
-pub record Answers (P : Type 0) (r : Bool) : Type 0 where
-  pub yes : r ≡ true → P
-  pub no : r ≡ false → ¬ P

@@ -1,14 +1,14 @@
-// From one cell entry to the next (SHEETS 6.2 to 6.5): when a cell is entered and left, the next cell, and whether a trace has a point in one named cell.
+// From one cell entry to the next (SHEETS 6.2 to 6.5): when a cell is entered and left, the next cell, and when a trace enters one named cell.
 ghost use mathlib.Core.Path.{_≡_};
 ghost use Prim.Native.Nat.{_≤_, _<_, _*_};
 ghost use lib.IntN.{pos, natAbs};
 ghost use Rattle.fraction.specs.Time.{asTime};
 ghost use Rattle.fraction.specs.Sizes.{greatestNum, greatestDen, Timely};
 ghost use Rattle.sheet.specs.Accepted.{TrackOk};
-ghost use Rattle.cells.specs.Touched.{HasPoint};
 ghost use Rattle.cells.specs.OneCell.{border, enter, leave, entry, exit};
 ghost use Rattle.cells.specs.Walk.{step, first};
-ghost use Rattle.cell_walk.specs.Onsets.{Ready, Gives, Crosses, Headed, Near, Answers, priorOf, laterOf, soonerOf, turnOf, onsetOf, fall, crossOf};
+ghost use Rattle.cell_walk.specs.Onsets.{Ready, Gives, Crosses, Headed, Near, priorOf, laterOf, soonerOf, turnOf, onsetOf, fall, crossOf};
+ghost use Rattle.cell_walk.specs.Arrivals.{Arrives};
 use cells::Cell;
 use fraction::Fraction;
 use fraction::Sign;
@@ -30,6 +30,12 @@ pub enum Heading {
 pub struct Crossing {
     pub when: Onset,
     pub cell: Cell,
+}
+
+// The time at which a trace enters a cell, if it has a point there.
+pub enum Arrival {
+    At(Fraction),
+    Never,
 }
 
 fn heading_of(v: i8) -> Heading
@@ -149,13 +155,19 @@ fn cell_exit(a: Track, s: u64, k: Cell) -> Onset
     )
 }
 
-// The trace up to `end` has a point in the cell: it is entered before it is left and before the trace's end.
-pub fn has_point(a: Track, end: Fraction, s: u64, k: Cell) -> bool
+// When the trace up to `end` enters the cell (SHEETS 6.4). It has a point there if the cell is entered before it is left and before the trace's end.
+pub fn arrives(a: Track, end: Fraction, s: u64, k: Cell) -> Arrival
     requires { ⌜ TrackOk a × Timely end × (s ≤ 4096) × Near k ⌝ }
-    ensures { λ r. ⌜ Answers (HasPoint a (asTime end) s k) r ⌝ }
+    ensures { λ r. ⌜ Arrives a (asTime end) s k r ⌝ }
 {
     let past = Onset { at: end, late: 1 };
-    prior(cell_entry(a, s, k), sooner(cell_exit(a, s, k), past))
+    let entry = cell_entry(a, s, k);
+    let exit = cell_exit(a, s, k);
+    if prior(entry, sooner(exit, past)) {
+        let at = entry.at;
+        return Arrival::At(at);
+    }
+    Arrival::Never
 }
 
 fn onward(v: i8, col: u64) -> u64

@@ -15,7 +15,8 @@ use Rattle.cells.specs.Grid.{g8, side}
 use Rattle.cells.specs.Touched.{Counted}
 use Rattle.cells.specs.Cut.{before, later, sooner, past}
 use Rattle.cells.specs.OneCell.{border, enter, leave, entry, exit, hasPoint}
-use Rattle.cells.specs.CellsEntered.{columnCells, gridCells, passing, touched, touchedBy, cellsEntered}
+use Rattle.cells.specs.Passing.{passing}
+use Rattle.cells.specs.CellsEntered.{columnCells, gridCells, touched, touchedBy, cellsEntered}
 use Rattle.cells.proofs.CellsEntered.{is-counted}
 
 -- with the end times that the table has

@@ -14,48 +14,24 @@ use Rattle.cells.specs.declared.Cell.{Cell}
 use Rattle.cells.specs.Grid.{Figure, side}
 use Rattle.cells.specs.Touched.{HasPoint, Distinct, none, one-more, CellsOf}
 use Rattle.cells.specs.OneCell.{hasPoint}
-use Rattle.cells.specs.CellsEntered.{columnCells, gridCells, passing, touched}
-use Rattle.cells.proofs.Entry.{has-point-true, has-point-false}
+use Rattle.cells.specs.Passing.{passing}
+use Rattle.cells.specs.CellsEntered.{columnCells, gridCells, touched}
+use Rattle.cells.proofs.Entry.{has-point-true, tested}
+use Rattle.cells.proofs.Passing.{passing-in, in-passing}
 use Rattle.cells.proofs.Points.{in-grid}
 use Rattle.cells.proofs.Walk.{Stay}
 
--- ---- the members that pass a test
+-- ---- the cells of the grid, each once
 
 module _ (p : Cell → Bool) where
-  pub passing-in : {k : Cell} (l : List Cell) → k ∈ passing p l → (k ∈ l) × (p k ≡ true)
-  unfolding passing
-  passing-in [] i = absurd (List·Memᴰ·not-nil i)
-  passing-in {k} (x ∷ l) i = go (passing-in l) (p x) refl i
-    where
-      both : p x ≡ true → ((k ∈ passing p l) → (k ∈ l) × (p k ≡ true)) → (k ≡ x) ⊎ (k ∈ passing p l) → (k ∈ (x ∷ l)) × (p k ≡ true)
-      both e r (inl f) = (List·Memᴰ·head f, ap p f ∙ e)
-      both e r (inr j) = let (m, t) = r j in (List·Memᴰ·tail m, t)
-
-      go : ((k ∈ passing p l) → (k ∈ l) × (p k ≡ true)) → (b : Bool) → p x ≡ b → k ∈ cond b (x ∷ passing p l) (passing p l) → (k ∈ (x ∷ l)) × (p k ≡ true)
-      go r true e j = both e r (List·Memᴰ·cases-cons j)
-      go r false e j = let (m, t) = r j in (List·Memᴰ·tail m, t)
-
-  pub in-passing : {k : Cell} (l : List Cell) → k ∈ l → p k ≡ true → k ∈ passing p l
-  unfolding passing
-  in-passing [] i t = absurd (List·Memᴰ·not-nil i)
-  in-passing {k} (x ∷ l) i t = go (in-passing l) (p x) refl (List·Memᴰ·cases-cons i)
-    where
-      go : (k ∈ l → p k ≡ true → k ∈ passing p l) → (b : Bool) → p x ≡ b → (k ≡ x) ⊎ (k ∈ l) → k ∈ cond b (x ∷ passing p l) (passing p l)
-      go r true e (inl f) = List·Memᴰ·head f
-      go r true e (inr j) = List·Memᴰ·tail (r j t)
-      go r false e (inl f) = absurd (let g = sym e ∙ sym (ap p f) ∙ t in let z : _≡_ {A = ℕ} 0 1 = cc in omega arith)
-      go r false e (inr j) = r j t
-
   pub passing-distinct : {l : List Cell} → Distinct l → Distinct (passing p l)
   unfolding passing
   passing-distinct none = none
   passing-distinct (one-more {k = k} {l = l} n d) = go (p k) (passing-distinct d)
     where
       go : (b : Bool) → Distinct (passing p l) → Distinct (cond b (k ∷ passing p l) (passing p l))
-      go true r = one-more (λ i. n (passing-in l i .0)) r
+      go true r = one-more (λ i. n (passing-in p l i .0)) r
       go false r = r
-
--- ---- the cells of the grid, each once
 
 in-column : {k : Cell} (c r : ℕ) → k ∈ columnCells c r → (k .column ≡ c) × (k .row < r)
 unfolding columnCells
@@ -116,13 +92,6 @@ grid-distinct zero r = none
 grid-distinct (suc c) r = apart (column-distinct c r) (grid-distinct c r) (λ k i j. omega (arith, in-column c r i .0, in-columns c r j))
 
 -- ---- the cells of a trace
-
-tested : {a : Track} {T : Time} {s : ℕ} {k : Cell} → HasPoint a T s k → hasPoint a T s k ≡ true
-tested {a} {T} {s} {k} h = go (hasPoint a T s k) refl
-  where
-    go : (b : Bool) → hasPoint a T s k ≡ b → b ≡ true
-    go true e = refl
-    go false e = absurd (has-point-false e h)
 
 module _ (a : Track) (T : Time) (g : ℕ) (f : Figure g) (z : Stay a T) where
   inside : (t : Time) → t ≤ᵗ T → Inside a t

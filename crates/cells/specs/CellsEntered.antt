@@ -1,6 +1,5 @@
 -- The number of cells entered on a sheet (SHEETS 6.6), by the test of each cell of the grid.
 -- Nobody need believe this file: `is-counted` and `the-count` in proofs/CellsEntered.antt show that the number is the one that `Counted` tells of.
-use mathlib.Core.Bool.{Bool, cond}
 use mathlib.Core.List.{List, [], _∷_, _++_}
 use Prim.Native.Nat.{ℕ, zero, suc, _+_}
 use lib.ListN.{length}
@@ -12,6 +11,7 @@ use Rattle.rule.specs.Selection.{rollOf}
 use Rattle.cells.specs.declared.Cell.{Cell}
 use Rattle.cells.specs.Grid.{side}
 use Rattle.cells.specs.OneCell.{hasPoint}
+use Rattle.cells.specs.Passing.{passing}
 
 -- ---- the cells of the grid
 
@@ -26,11 +26,6 @@ gridCells zero r = []
 gridCells (suc c) r = columnCells c r ++ gridCells c r
 
 -- ---- those with a point of a trace
-
--- the members of a list that pass a test
-unfoldable pub passing : (Cell → Bool) → List Cell → List Cell
-passing p [] = []
-passing p (k ∷ l) = cond (p k) (k ∷ passing p l) (passing p l)
 
 -- of the trace of a up to T
 unfoldable pub touched : Track → Time → ℕ → List Cell

@@ -5,7 +5,7 @@ use Prim.Native.Nat.{ℕ, suc, _*_, _-_, _≤_}
 use native.Mathlib.Decide.{decLe}
 use native.Mathlib.Omega.{arith}
 use lib.IntN.{ℤ, pos, negsuc}
-use Rattle.fraction.specs.Time.{Time}
+use Rattle.fraction.specs.Time.{Time, fraction}
 use Rattle.sheet.specs.declared.Track.{Track}
 use Rattle.cells.specs.declared.Cell.{Cell}
 use Rattle.cells.specs.Cut.{Cut, before, later, sooner, past}
@@ -45,6 +45,10 @@ leave x (negsuc w) s c = border x (negsuc w) (c * s)
 -- from where on the tip is, or has been, in the column and in the row
 unfoldable pub entry : Track → ℕ → Cell → Cut
 entry a s k = later (enter (a .x) (a .vx) s (k .column)) (enter (a .y) (a .vy) s (k .row))
+
+-- the time of that cut (SHEETS 6.4): `entry-time` in proofs/Entry.antt
+unfoldable pub entryTime : Track → ℕ → Cell → Time
+entryTime a s k = fraction (entry a s k .num) (entry a s k .den)
 
 unfoldable pub exit : Track → ℕ → Cell → Cut
 exit a s k = sooner (leave (a .x) (a .vx) s (k .column)) (leave (a .y) (a .vy) s (k .row))

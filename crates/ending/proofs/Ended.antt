@@ -10,7 +10,7 @@ use Rattle.sheet.specs.Accepted.{Accepted}
 use Rattle.sheet.specs.Listing.{Listing}
 use Rattle.sheet.specs.HandedIn.{noTrack}
 use Rattle.sheet.specs.declared.Track.{Track}
-use Rattle.sheet.proofs.Lists.{mem-at}
+use Rattle.sheet.proofs.Lists.{pairs-at}
 use Rattle.rule.specs.declared.Row.{Row}
 use Rattle.rule.specs.Selection.{rollOf}
 use Rattle.rule.proofs.Starts.{Ids}
@@ -20,11 +20,7 @@ use Rattle.ending.specs.Ended.{nextRow}
 
 -- tracks at two places have different ids
 pub apart : (l : List Track) → Ids l → (i k : ℕ) → i < length l → k < length l → i ≢ k → getD l i noTrack .id ≢ getD l k noTrack .id
-apart [] p i k h g n = absurd (omega arith)
-apart (x ∷ l) p zero zero h g n = absurd (n refl)
-apart (x ∷ l) p zero (suc k) h g n = p .0 (getD l k noTrack) (mem-at noTrack l k (omega arith))
-apart (x ∷ l) p (suc i) zero h g n = λ e. p .0 (getD l i noTrack) (mem-at noTrack l i (omega arith)) (sym e)
-apart (x ∷ l) p (suc i) (suc k) h g n = apart l (p .1) i k (omega arith) (omega arith) (λ e. n (ap suc e))
+apart l p i k h g n = pairs-at noTrack (λ a b. a .id ≢ b .id) (λ a b f e. f (sym e)) l p i k h g n
 
 -- rows that begin the roll
 begins : (l rows more : List Row) (r d : Row) (k : ℕ) → length rows ≡ k → l ≡ (rows ++ (r ∷ [])) ++ more → (take (k + 1) l ≡ rows ++ (r ∷ [])) × (getD l k d ≡ r)

@@ -17,7 +17,7 @@ use Rattle.event_queue.specs.declared.Entry.{Entry}
 use Rattle.event_queue.specs.declared.Event.{Event}
 use Rattle.event_queue.specs.declared.Key.{Key}
 use Rattle.event_queue.proofs.Bags.{pick}
-use Rattle.event_queue.proofs.Callers.{slot-same, slot-other}
+use Rattle.event_queue.proofs.Callers.{slot-in, slot-same, slot-other}
 use Rattle.event_queue.proofs.Slots.{none≢some}
 use Rattle.pending_events.specs.Pending.{pendingEntry}
 use Rattle.tips.specs.Tips.{Tip, tipIn, noTip, at-time, withEnd}
@@ -27,11 +27,6 @@ use Rattle.grid_state.specs.State.{Runs, Queued}
 -- no tip is on its way: 256 is no tip's place
 pub none-out : {b : ℕ} → b ≤ 256 → (j : ℕ) → j < b → j ≢ 256
 none-out h j l e = omega arith
-
--- what is in the map has a place in it
-pub slot-in : (s : Slots) (j : ℕ) {e : Entry} → slot s j ≡ some e → j < length s
-slot-in s j z =
-    pick (decLt j (length s)) (λ h. h) (λ n. absurd (none≢some (sym (List·getD-eq-default s none {n = j} (omega arith)) ∙ z)))
 
 -- ---- the tip at i is changed
 
