@@ -2,8 +2,8 @@
 
 use crate::sheets::Timed;
 use crate::timing::least;
-use fissures::{Session, LONGEST_ROLL};
-use reference::cells::{count, FIGURES};
+use fissures::{Cell, Session, LONGEST_ROLL};
+use reference::cells::{count, listing, FIGURES};
 use reference::roll::{roll, roll_bytes, Row};
 use reference::sheet::{self, read};
 use std::hint::black_box;
@@ -19,12 +19,18 @@ pub enum Call {
     Grid(u64),
     /// A session with half of its rows shown advances by one.
     Step,
+    /// The listing of the fullest cell at a figure.
+    Cells(u64),
 }
+
+/// Those of the cell listing: all tracks in one cell, and a grid.
+pub const LISTED_FIGURES: [u64; 2] = [1, 8];
 
 impl Call {
     /// Those by which a sheet is worked out.
     pub fn all() -> Vec<Call> {
-        [&[Call::Read, Call::Plain][..], &FIGURES.map(Call::Grid), &[Call::Step]].concat()
+        let cells = LISTED_FIGURES.map(Call::Cells);
+        [&[Call::Read, Call::Plain][..], &FIGURES.map(Call::Grid), &[Call::Step], &cells].concat()
     }
 
     pub fn name(self) -> String {
@@ -34,6 +40,7 @@ impl Call {
             Call::Plain => "plain run".into(),
             Call::Grid(figure) => format!("grid run, g = {figure}"),
             Call::Step => "session step".into(),
+            Call::Cells(figure) => format!("cell listing, g = {figure}"),
         }
     }
 
@@ -46,6 +53,10 @@ impl Call {
             Call::Plain => fissures::plain(sheet, out),
             Call::Grid(figure) => fissures::grid(sheet, figure, out).map(|roll| roll.cells as usize),
             Call::Step => Session { sheet, shown: timed.half() as u64 }.advance(1, out),
+            Call::Cells(figure) => {
+                let (cell, _) = timed.fullest(figure);
+                fissures::cells(sheet, Cell { figure, column: cell.column, row: cell.row }, out)
+            }
         };
         answer.expect("an accepted sheet")
     }
@@ -66,19 +77,39 @@ impl Call {
                 count(&records, &rows, figure)
             }
             Call::Step => put(&roll(&records)[timed.half()..][..1], out),
+            Call::Cells(figure) => {
+                let ids = listing(&records, figure, timed.fullest(figure).0).expect("a cell of the grid");
+                put_bytes(&ids.iter().flat_map(|id| id.to_le_bytes()).collect::<Vec<u8>>(), out);
+                ids.len()
+            }
         }
     }
 
     fn check(self, timed: &Timed) {
         let (mut ours, mut theirs) = ([0; LONGEST_ROLL], [0; LONGEST_ROLL]);
         let numbers = (self.proved(timed, &mut ours), self.outside(timed, &mut theirs));
+        if let Call::Cells(_) = self {
+            forget_order(&mut ours, numbers.0);
+            forget_order(&mut theirs, numbers.1);
+        }
         assert!(numbers.0 == numbers.1 && ours == theirs, "{}, {}: answers differ", timed.name(), self.name());
     }
 }
 
+/// The order of a listing's ids is open (SHEETS 6.10): so many of them are put in rising order. Where it is promised this goes, and the
+/// bytes are compared as they are.
+fn forget_order(out: &mut [u8], ids: usize) {
+    let mut listed: Vec<u16> = out[..2 * ids].chunks(2).map(|id| u16::from_le_bytes([id[0], id[1]])).collect();
+    listed.sort_unstable();
+    put_bytes(&listed.into_iter().flat_map(u16::to_le_bytes).collect::<Vec<u8>>(), out);
+}
+
+fn put_bytes(bytes: &[u8], out: &mut [u8]) {
+    out[..bytes.len()].copy_from_slice(bytes);
+}
+
 fn put(rows: &[Row], out: &mut [u8]) -> usize {
-    let bytes = roll_bytes(rows);
-    out[..bytes.len()].copy_from_slice(&bytes);
+    put_bytes(&roll_bytes(rows), out);
     rows.len()
 }
 

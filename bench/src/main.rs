@@ -2,6 +2,7 @@
 //! Times are the least of many rounds, in microseconds. Ratios are what counts.
 
 mod calls;
+mod cell_rows;
 mod grid_rows;
 mod growth;
 mod order_rows;
@@ -16,4 +17,5 @@ fn main() {
     let sheets = sheets::all();
     plain_rows::print(&sheets);
     grid_rows::print(&sheets);
+    cell_rows::print(&sheets);
 }

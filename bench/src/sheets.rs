@@ -1,9 +1,11 @@
 //! The sheets that are timed.
 
+use reference::cells::{cells_of, Cell, FIGURES};
 use reference::made_up::{Ground, BORDERS, SMALL, WHOLE};
 use reference::rng::Rng;
-use reference::roll::roll;
-use reference::sheet::{listing, read, Command, Records, Track};
+use reference::roll::{roll, Row};
+use reference::sheet::{commands, listing, read, Command, Records, Track};
+use std::collections::BTreeMap;
 
 const SEED: u64 = 7;
 const SIZES: [(usize, usize); 6] = [(16, 0), (64, 0), (256, 0), (16, 256), (64, 256), (256, 256)];
@@ -12,13 +14,32 @@ pub struct Timed {
     kind: &'static str,
     pub bytes: Vec<u8>,
     pub records: Records,
+    /// At each figure a cell with the most ids, and their number.
+    fullest: [(Cell, usize); 6],
+}
+
+/// Each row with its track.
+fn ends<'a>(records: &'a Records, rows: &'a [Row]) -> impl Iterator<Item = (&'a Track, &'a Row)> {
+    let track_of = |row: &Row| records.tracks.iter().find(|track| track.id == row.id);
+    rows.iter().map(move |row| (track_of(row).expect("a row's track"), row))
+}
+
+/// A cell with points of the most traces, and their number.
+fn fullest(records: &Records, rows: &[Row], figure: u64) -> (Cell, usize) {
+    let mut ids: BTreeMap<Cell, usize> = BTreeMap::new();
+    for cell in ends(records, rows).flat_map(|(track, row)| cells_of(track, row.time, figure)) {
+        *ids.entry(cell).or_default() += 1;
+    }
+    ids.into_iter().max_by_key(|(_, ids)| *ids).expect("a track")
 }
 
 impl Timed {
     fn new(kind: &'static str, listed: Vec<Command>) -> Timed {
         let bytes = listing(listed);
         let records = read(&bytes).expect("accepted");
-        Timed { kind, bytes, records }
+        let rows = roll(&records);
+        let fullest = FIGURES.map(|figure| fullest(&records, &rows, figure));
+        Timed { kind, bytes, records, fullest }
     }
 
     /// The kind, and what the sheet holds, which may be fewer records than were wanted.
@@ -32,14 +53,28 @@ impl Timed {
         self.records.tracks.len() / 2
     }
 
+    /// A cell with the most ids at one of the six figures, which are powers of 2, and their number.
+    pub fn fullest(&self, figure: u64) -> (Cell, usize) {
+        self.fullest[figure.trailing_zeros() as usize]
+    }
+
+    /// The same records, the tracks by rising and by falling id.
+    pub fn by_id(&self) -> [Timed; 2] {
+        let mut rising = self.records.clone();
+        rising.tracks.sort_by_key(|track| track.id);
+        let mut falling = rising.clone();
+        falling.tracks.reverse();
+        [("ids rising", rising), ("ids falling", falling)]
+            .map(|(kind, records)| Timed::new(kind, commands(&records.tracks, &records.walls).collect()))
+    }
+
     /// The sheet's side in mean lengths of its traces.
     pub fn mean_lengths_in_a_side(&self) -> f64 {
         let length = |track: &Track, time: f64| time * f64::from(track.vx).hypot(track.vy.into());
         let rows = roll(&self.records);
-        let lengths = rows.iter().filter_map(|row| {
+        let lengths = ends(&self.records, &rows).map(|(track, row)| {
             let (num, den) = row.time_in_lowest_terms();
-            let track = self.records.tracks.iter().find(|track| track.id == row.id);
-            track.map(|track| length(track, num as f64 / den as f64))
+            length(track, num as f64 / den as f64)
         });
         4096.0 * rows.len() as f64 / lengths.sum::<f64>()
     }
