@@ -85,7 +85,8 @@ impl Call {
         }
     }
 
-    fn check(self, timed: &Timed) {
+    /// Both sides give the same answer.
+    pub fn check(self, timed: &Timed) {
         let (mut ours, mut theirs) = ([0; LONGEST_ROLL], [0; LONGEST_ROLL]);
         let numbers = (self.proved(timed, &mut ours), self.outside(timed, &mut theirs));
         if let Call::Cells(_) = self {

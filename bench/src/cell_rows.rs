@@ -2,8 +2,12 @@
 
 use crate::calls::{compare, Call, Pair, LISTED_FIGURES};
 use crate::sheets::{on_ground, Timed};
+use crate::stack::check_in;
 use crate::table::{self, head, row};
 use reference::made_up::WHOLE;
+
+/// The stack that a listing may use.
+const STACK: usize = 1 << 20;
 
 fn cells(timed: &Timed, figure: u64, pair: &Pair) -> [String; 4] {
     let (_, ids) = timed.fullest(figure);
@@ -20,6 +24,7 @@ fn measure(timed: &Timed) -> Vec<String> {
 }
 
 pub fn print(sheets: &[Timed]) {
+    check_in(STACK, sheets, |timed| LISTED_FIGURES.map(Call::Cells).into_iter().for_each(|call| call.check(timed)));
     println!("## The cell listing\n");
     println!("Of a cell with the most ids; at g = 1 all tracks are in the one cell. Both runs and the listing from the sheet's bytes to the answer's.\n");
     let listings = LISTED_FIGURES

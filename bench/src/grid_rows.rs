@@ -1,6 +1,7 @@
 //! The grid run compared with the plain run and with the same algorithm in Rust, at the six figures: each call less the scan of the bytes.
 
 use crate::sheets::Timed;
+use crate::stack::check_in;
 use crate::table::{self, head, row};
 use crate::timing::least_of_each;
 use bench::{grid, selection};
@@ -85,14 +86,6 @@ fn check(timed: &Timed) {
     }
 }
 
-/// A run that needs more stack ends the program.
-fn check_in_little_stack(sheets: &[Timed]) {
-    std::thread::scope(|scope| {
-        let thread = std::thread::Builder::new().stack_size(STACK);
-        thread.spawn_scoped(scope, || sheets.iter().for_each(check)).expect("a thread");
-    });
-}
-
 fn measure(timed: &Timed) -> Measured<'_> {
     let Timed { bytes, records, .. } = timed;
     let mut out = [0; LONGEST_ROLL];
@@ -109,7 +102,7 @@ fn measure(timed: &Timed) -> Measured<'_> {
 }
 
 pub fn print(sheets: &[Timed]) {
-    check_in_little_stack(sheets);
+    check_in(STACK, sheets, check);
     let measured: Vec<Measured> = sheets.iter().map(measure).collect();
     println!("## The grid run\n");
     let figures = FIGURES.map(|figure| format!("g = {figure}"));

@@ -8,6 +8,7 @@ mod growth;
 mod order_rows;
 mod plain_rows;
 mod sheets;
+mod stack;
 mod table;
 mod timing;
 

@@ -1,6 +1,7 @@
 //! The plain run compared with the same algorithm in Rust and with the reference implementation's sweep: its call less the scan of the bytes.
 
 use crate::sheets::Timed;
+use crate::stack::check_in;
 use crate::table::{self, head, row};
 use crate::timing::least_of_each;
 use bench::selection;
@@ -10,16 +11,9 @@ use std::hint::black_box;
 /// The stack that a plain run may use.
 const STACK: usize = 512 * 1024;
 
-/// A run that needs more stack ends the program.
-fn check_in_little_stack(sheets: &[Timed]) {
-    std::thread::scope(|scope| {
-        let thread = std::thread::Builder::new().stack_size(STACK);
-        let run = |timed: &Timed| {
-            let rows = fissures::plain(&timed.bytes, &mut vec![0; LONGEST_ROLL]);
-            assert_eq!(rows, Ok(timed.records.tracks.len()));
-        };
-        thread.spawn_scoped(scope, move || sheets.iter().for_each(run)).expect("a thread");
-    });
+fn check(timed: &Timed) {
+    let rows = fissures::plain(&timed.bytes, &mut vec![0; LONGEST_ROLL]);
+    assert_eq!(rows, Ok(timed.records.tracks.len()));
 }
 
 fn measure(timed: &Timed) -> Vec<String> {
@@ -41,7 +35,7 @@ fn measure(timed: &Timed) -> Vec<String> {
 }
 
 pub fn print(sheets: &[Timed]) {
-    check_in_little_stack(sheets);
+    check_in(STACK, sheets, check);
     println!("## The plain run\n");
     table::print(&head("sheet", ["proved", "same algorithm", "ratio", "sweep", "ratio"]), sheets.iter().map(measure));
 }
