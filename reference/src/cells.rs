@@ -1,13 +1,13 @@
-//! Which cells hold a point of a trace (SHEETS 6.1 to 6.3), cell by cell.
+//! Which cells hold a point of a trace, and from when on (SHEETS 6.1 to 6.4), cell by cell.
 //!
 //! The times at which a tip is in one column are an interval, and so are those in one row. A cell
-//! holds a point of the trace when the two have a time in common up to the tip's exact end.
+//! holds a point of the trace when the two have a time in common up to the tip's exact end. What
+//! they have in common is an interval again, and its lower end is the time of entering the cell.
 
 use crate::fraction::Fraction;
 use crate::refusal::{Refusal, GRID_FIGURE, OUTSIDE_GRID};
 use crate::roll::{roll, Row};
 use crate::sheet::{Records, Track};
-use std::collections::BTreeSet;
 
 /// The grid figures (SHEETS 6.1).
 pub const FIGURES: [u64; 6] = [1, 2, 4, 8, 16, 32];
@@ -94,8 +94,17 @@ fn times_in_column(track: &Track, end: Fraction, side: u64, column: u64) -> Opti
     Times::up_to(end).within(track.x, track.vx, column * side, (column + 1) * side)
 }
 
-fn also_in_row(times: Times, track: &Track, side: u64, row: u64) -> bool {
-    times.within(track.y, track.vy, row * side, (row + 1) * side).is_some()
+/// Those of the times at which the tip is in the row as well.
+fn also_in_row(times: Times, track: &Track, side: u64, row: u64) -> Option<Times> {
+    times.within(track.y, track.vy, row * side, (row + 1) * side)
+}
+
+/// When the trace, which goes to `end`, enters the cell, if it has a point there (SHEETS 6.4). The
+/// tip need not be in the cell at that very time, so it does not matter if the interval takes it in.
+pub fn entry(track: &Track, end: Fraction, figure: u64, cell: Cell) -> Option<Fraction> {
+    let side = side(figure);
+    let times = times_in_column(track, end, side, cell.column)?;
+    also_in_row(times, track, side, cell.row).map(|times| times.from)
 }
 
 /// All cells that hold a point of the trace, which goes to `end` (SHEETS 6.3).
@@ -104,7 +113,7 @@ pub fn cells_of(track: &Track, end: Fraction, figure: u64) -> Vec<Cell> {
     let mut cells = Vec::new();
     for column in 0..figure {
         let Some(times) = times_in_column(track, end, side, column) else { continue };
-        let rows = (0..figure).filter(|row| also_in_row(times, track, side, *row));
+        let rows = (0..figure).filter(|row| also_in_row(times, track, side, *row).is_some());
         cells.extend(rows.map(|row| Cell { column, row }));
     }
     cells
@@ -126,13 +135,12 @@ pub fn counts(records: &Records, rows: &[Row]) -> [usize; 6] {
     FIGURES.map(|figure| count(records, rows, figure))
 }
 
-/// The ids of the tracks with a point in the cell (SHEETS 6.10).
-pub fn ids_in(records: &Records, rows: &[Row], figure: u64, cell: Cell) -> BTreeSet<u16> {
-    let has_point = |(track, end): &(&Track, Fraction)| {
-        let side = side(figure);
-        times_in_column(track, *end, side, cell.column).is_some_and(|times| also_in_row(times, track, side, cell.row))
-    };
-    traces(records, rows).filter(has_point).map(|(track, _)| track.id).collect()
+/// The ids of the tracks with a point in the cell: by the time of entering it, then by id (SHEETS 6.10).
+pub fn ids_in(records: &Records, rows: &[Row], figure: u64, cell: Cell) -> Vec<u16> {
+    let entered = |(track, end): (&Track, Fraction)| Some((entry(track, end, figure, cell)?, track.id));
+    let mut entries: Vec<(Fraction, u16)> = traces(records, rows).filter_map(entered).collect();
+    entries.sort();
+    entries.into_iter().map(|(_, id)| id).collect()
 }
 
 fn check_figure(figure: u64) -> Result<(), Refusal> {
@@ -150,7 +158,7 @@ pub fn cells_entered(records: &Records, figure: u64) -> Result<usize, Refusal> {
 }
 
 /// The cell listing, or the refusal of the figure or the cell.
-pub fn listing(records: &Records, figure: u64, cell: Cell) -> Result<BTreeSet<u16>, Refusal> {
+pub fn listing(records: &Records, figure: u64, cell: Cell) -> Result<Vec<u16>, Refusal> {
     check_figure(figure)?;
     if cell.column.max(cell.row) >= figure {
         return Err(Refusal { number: OUTSIDE_GRID, place: 0 });

@@ -1,5 +1,8 @@
 //! Cells against a second count: the cells of the points at and between all border crossings.
 
+mod crossings;
+
+use crossings::entries;
 use reference::cells::{cells_entered, cells_of, count, counts, ids_in, listing, Cell, FIGURES};
 use reference::chosen::{self, document, track};
 use reference::fraction::Fraction;
@@ -7,42 +10,10 @@ use reference::made_up;
 use reference::refusal::Refusal;
 use reference::rng::Rng;
 use reference::roll::{roll, Row};
-use reference::sheet::{self, read, Records, Track};
-use std::collections::BTreeSet;
+use reference::sheet::{self, read, Records};
 
 fn records(name: &str) -> Records {
     read(&document::sheet(name)).expect("accepted")
-}
-
-fn cell_at(track: &Track, time: Fraction, side: u64) -> Cell {
-    let along = |start: u16, speed: i8| {
-        let place = Fraction::whole(start) + Fraction::whole(speed) * time;
-        place.over(Fraction::whole(side)).floor() as u64
-    };
-    Cell { column: along(track.x, track.vx), row: along(track.y, track.vy) }
-}
-
-/// Between two neighbours of these times the tip stays in one cell.
-fn crossing_times(track: &Track, end: Fraction, side: u64) -> Vec<Fraction> {
-    let mut times = vec![Fraction::ZERO, end];
-    for line in (0..=4096).step_by(side as usize) {
-        for (start, speed) in [(track.x, track.vx), (track.y, track.vy)] {
-            if speed != 0 {
-                times.push(Fraction::new(line - i128::from(start), speed));
-            }
-        }
-    }
-    times.retain(|time| Fraction::ZERO <= *time && *time <= end);
-    times.sort();
-    times
-}
-
-fn cells_by_crossings(track: &Track, end: Fraction, figure: u64) -> BTreeSet<Cell> {
-    let side = 4096 / figure;
-    let times = crossing_times(track, end, side);
-    let between = times.windows(2).map(|pair| (pair[0] + pair[1]) * Fraction::new(1, 2));
-    let all = times.iter().copied().chain(between);
-    all.map(|time| cell_at(track, time, side)).collect()
 }
 
 fn end_of(rows: &[Row], id: u16) -> Fraction {
@@ -57,7 +28,7 @@ fn check_cells(records: &Records) {
         for track in &records.tracks {
             let end = end_of(&rows, track.id);
             let cells = cells_of(track, end, figure);
-            let expected = cells_by_crossings(track, end, figure);
+            let expected = entries(track, end, figure).into_keys();
             assert_eq!(cells, Vec::from_iter(expected), "{track:?}, figure {figure}");
             assert!((1..2 * figure).contains(&(cells.len() as u64)));
             assert!(cells.iter().all(|cell| cell.column.max(cell.row) < figure));
@@ -167,5 +138,5 @@ fn figures_and_cells_that_are_refused() {
     assert_eq!(listing(&sheet, 8, Cell { column: 8, row: 0 }), refused);
     assert_eq!(listing(&sheet, 8, Cell { column: 0, row: 8 }), refused);
     let first = listing(&sheet, 8, Cell { column: 0, row: 0 });
-    assert_eq!(first, Ok(BTreeSet::from([1, 2])));
+    assert_eq!(first, Ok(vec![1, 2]));
 }

@@ -112,7 +112,7 @@ fn name_line(lookup: &Lookup) -> String {
     format!("name {} {}", name.len(), hexadecimal(name))
 }
 
-/// Each cell with a point of a trace, as `column,row:id,id`; by columns, then rows, ids rising.
+/// Each cell with a point of a trace, as `column,row:id,id`; by columns, then rows, ids in the listing's order.
 fn cells_line(records: &Records) -> String {
     let rows = roll(records);
     let all = (0..FIGURE).flat_map(|column| (0..FIGURE).map(move |row| Cell { column, row }));
