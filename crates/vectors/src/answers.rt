@@ -97,3 +97,16 @@ pub fn print_cells(answer: GridRolled, again: &[u8], rows: &[u8]) {
         GridRolled::Refused(number, place) => print_refusal(number, place),
     }
 }
+
+// The ids of a cell, of at most 256 tracks.
+pub fn print_ids(answer: Answer, ids: &[u8]) {
+    print_text(b" ");
+    match answer {
+        Answer::Gives(n) => {
+            if n <= 256 {
+                print_hex(ids, 2 * n);
+            }
+        }
+        Answer::Refused(number, place) => print_refusal(number, place),
+    }
+}

@@ -1,10 +1,11 @@
-// Records handed in: the check's answer, then three lines as for a sheet's bytes, with the refusal wherever the call refuses.
+// Records handed in: the check's answer, then four lines as for a sheet's bytes, with the refusal wherever the call refuses.
 // A frame has the numbers of tracks and of walls (64 bits each), how many tracks are listed (16), the listed tracks (8 bytes each) and the
 // listed walls (10 each, to the end). Places of the arrays behind the listed ones are blank.
-ghost use Prim.Native.Nat.{_+_, _≤_};
+ghost use Prim.Native.Nat.{_+_, _≤_, _<_};
 ghost use lib.ListN.{length};
 use crate::answers::print_cells;
 use crate::answers::print_form;
+use crate::answers::print_ids;
 use crate::answers::print_refusal;
 use crate::answers::print_rows;
 use crate::answers::print_text;
@@ -114,6 +115,30 @@ fn print_rolls(sheet: Sheet) {
     print_figures(sheet, &rows);
 }
 
+fn list_at(sheet: Sheet, g: u64, column: u64, row: u64) {
+    let mut ids = [0u8; cell_listing::LONGEST_CELL];
+    let answer = cell_listing::cell_tracks(sheet, g, column, row, &mut ids);
+    print_ids(answer, &ids);
+}
+
+// The first cells of a grid, by columns, then rows.
+fn list_cells(sheet: Sheet, g: u64, count: u64)
+    requires { ⌜ 0 < g ⌝ }
+{
+    let mut k = 0;
+    while k < count {
+        list_at(sheet, g, k / g, k % g);
+        k += 1;
+    }
+}
+
+fn print_listed(sheet: Sheet) {
+    print_text(b"listed");
+    list_cells(sheet, 2, 4);
+    list_cells(sheet, 4, 16);
+    print_text(b"\n");
+}
+
 fn print_check(sheet: Sheet) {
     let verdict = sheet_writer::check(sheet);
     match verdict {
@@ -141,4 +166,5 @@ pub fn answer(s: &[u8]) {
     print_check(sheet);
     print_form(sheet);
     print_rolls(sheet);
+    print_listed(sheet);
 }

@@ -2,7 +2,7 @@
 //!
 //! - `vectors frames` writes framed questions, and how many there are to standard error.
 //! - `vectors expected` reads such frames and prints the answers: of a sheet or of records handed
-//!   in the refusal, or what reader, writer and both runs give; of a lookup the name.
+//!   in the refusal, or what reader, writer, both runs and the cell listings give; of a lookup the name.
 //! - `vectors cells` reads such frames and prints for each sheet its refusal or the cell listings.
 //! - `vectors roll` reads one sheet without a frame and prints what program `roll` prints.
 
@@ -20,8 +20,10 @@ use std::io::{self, BufWriter, Read, Write};
 use std::process::ExitCode;
 
 const SEED: u64 = 1;
-/// The figure of program `roll`, and of the cell listings.
+/// The figure of program `roll`, and of `vectors cells`.
 const FIGURE: u64 = 8;
+/// The figures under which `vectors expected` lists every cell.
+const LISTED: [u64; 2] = [2, 4];
 const USAGE: &str = "usage: vectors frames | expected | cells | roll";
 
 /// What the question is, and its answer's kind.
@@ -83,25 +85,41 @@ fn hexadecimal(bytes: &[u8]) -> String {
 }
 
 /// Numbers of tracks and walls and the ordered form; the roll's bytes; the cells entered at each
-/// of the six figures.
+/// of the six figures; the cell listings.
 fn records_lines(records: &Records) -> String {
     let Records { tracks, walls } = records;
     let form = hexadecimal(&ordered_form(tracks, walls));
     let rows = roll(records);
     let bytes = hexadecimal(&roll_bytes(&rows));
     let counts = cells::counts(records, &rows).map(|count| count.to_string()).join(" ");
-    format!("{} {} {form}\nroll {bytes}\ncells {counts}", tracks.len(), walls.len())
+    let listed = listed_line(|figure, cell| {
+        let ids = cells::ids_in(records, &rows, figure, cell);
+        hexadecimal(&ids.iter().flat_map(|id| id.to_le_bytes()).collect::<Vec<u8>>())
+    });
+    format!("{} {} {form}\nroll {bytes}\ncells {counts}\n{listed}", tracks.len(), walls.len())
 }
 
-/// What the check gives, then the writer and both runs: the plain run once, the grid run at each
-/// figure.
+/// The cells of a grid, by columns, then rows.
+fn all_cells(figure: u64) -> impl Iterator<Item = Cell> {
+    (0..figure).flat_map(move |column| (0..figure).map(move |row| Cell { column, row }))
+}
+
+/// What is said of each cell; nothing between two spaces where the cell is empty.
+fn listed_line(of: impl Fn(u64, Cell) -> String) -> String {
+    let all = LISTED.iter().flat_map(|&figure| all_cells(figure).map(move |cell| (figure, cell)));
+    all.fold("listed".to_string(), |line, (figure, cell)| line + " " + &of(figure, cell))
+}
+
+/// What the check gives, then the writer, both runs and the cell listings: the plain run once, the
+/// grid run at each figure, the listing for each cell.
 fn handed_in_lines(handed_in: &HandedIn) -> String {
     let HandedIn { ntracks, nwalls, .. } = handed_in;
     match handed_in.check() {
         Ok(records) => format!("accepted\n{}", records_lines(&records)),
         Err(refusal) => {
             let at_each = FIGURES.map(|_| refusal.to_string()).join(" ");
-            format!("{refusal}\n{ntracks} {nwalls} {refusal}\nroll {refusal}\ncells {at_each}")
+            let listed = listed_line(|_, _| refusal.to_string());
+            format!("{refusal}\n{ntracks} {nwalls} {refusal}\nroll {refusal}\ncells {at_each}\n{listed}")
         }
     }
 }
@@ -115,13 +133,12 @@ fn name_line(lookup: &Lookup) -> String {
 /// Each cell with a point of a trace, as `column,row:id,id`; by columns, then rows, ids in the listing's order.
 fn cells_line(records: &Records) -> String {
     let rows = roll(records);
-    let all = (0..FIGURE).flat_map(|column| (0..FIGURE).map(move |row| Cell { column, row }));
     let entry = |cell: Cell| {
         let ids = cells::ids_in(records, &rows, FIGURE, cell);
         let ids: Vec<String> = ids.iter().map(u16::to_string).collect();
         (!ids.is_empty()).then(|| format!("{},{}:{}", cell.column, cell.row, ids.join(",")))
     };
-    all.filter_map(entry).collect::<Vec<_>>().join(" ")
+    all_cells(FIGURE).filter_map(entry).collect::<Vec<_>>().join(" ")
 }
 
 fn print_roll(out: &mut impl Write) -> io::Result<()> {
