@@ -1,5 +1,6 @@
 //! Made-up sheets from a seed: accepted ones, nearly accepted ones, and damaged ones.
 
+pub mod entering;
 pub mod handed_in;
 pub mod names;
 

@@ -6,9 +6,10 @@ use crossings::entries;
 use reference::cells::{entry, ids_in, listing, Cell, FIGURES};
 use reference::chosen::{self, document, track, wall};
 use reference::made_up;
+use reference::made_up::entering::{entering, Entering};
 use reference::rng::Rng;
 use reference::roll::{roll, Row};
-use reference::sheet::{self, read, Command, Records};
+use reference::sheet::{self, read, Command, Records, Track};
 
 /// Cells under g = 8: (1, 1) is the square from (512, 512) to (1024, 1024), without its right and upper border.
 fn ids(commands: &[Command], column: u64, row: u64) -> Vec<u16> {
@@ -119,6 +120,35 @@ fn entries_of_chosen_and_made_up_sheets() {
             [1, 2, 4, 8].into_iter().for_each(|figure| check_entries(&records, figure));
         }
     }
+}
+
+/// Whether two tips enter the cell at one time, and only one of them is in it then.
+fn has_open_beside_closed(records: &Records, figure: u64, cell: Cell) -> bool {
+    let rows = roll(records);
+    let end_of = |track: &Track| rows.iter().find(|row| row.id == track.id).expect("a row for each track").time;
+    let entry = |track: &Track| {
+        let time = entry(track, end_of(track), figure, cell)?;
+        Some((time, crossings::cell_at(track, time, figure) == cell))
+    };
+    let entries: Vec<_> = records.tracks.iter().filter_map(entry).collect();
+    entries.iter().any(|(time, closed)| entries.contains(&(*time, !closed)))
+}
+
+#[test]
+fn tips_that_enter_together() {
+    let mut rng = Rng::new(34);
+    let mut open_beside_closed = 0;
+    for _ in 0..400 {
+        let Entering { sheet, figure, cell } = entering(&mut rng);
+        let records = read(&sheet).expect("accepted");
+        check_entries(&records, figure);
+        open_beside_closed += usize::from(has_open_beside_closed(&records, figure, cell));
+        let ids = listing(&records, figure, cell).expect("a cell of the grid");
+        if let Some(other) = made_up::in_another_order(&mut rng, &sheet) {
+            assert_eq!(listing(&read(&other).expect("accepted"), figure, cell), Ok(ids));
+        }
+    }
+    assert!(open_beside_closed > 200);
 }
 
 /// All listings of a sheet under one figure.

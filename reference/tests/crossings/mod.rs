@@ -5,7 +5,7 @@ use reference::fraction::Fraction;
 use reference::sheet::Track;
 use std::collections::BTreeMap;
 
-fn cell_at(track: &Track, time: Fraction, figure: u64) -> Cell {
+pub fn cell_at(track: &Track, time: Fraction, figure: u64) -> Cell {
     let number = |place: Fraction| place.over(Fraction::whole(side(figure))).floor() as u64;
     let (x, y) = track.at(time);
     Cell { column: number(x), row: number(y) }
