@@ -3,12 +3,13 @@
 
 use fissures::{numbers, Cell, GridRoll, Place, Row, Session, LONGEST_ROLL, ROW};
 use reference::cells::{self, FIGURES};
-use reference::made_up;
+use reference::made_up::entering::{entering, Entering};
+use reference::made_up::{self, BORDERS, COARSE, SMALL};
 use reference::names::place_in;
 use reference::refusal::{Refusal, OUTPUT_TOO_SHORT};
 use reference::rng::Rng;
 use reference::roll::{roll, roll_bytes};
-use reference::sheet::{ordered_form, read, Records};
+use reference::sheet::{listing, ordered_form, read, Records};
 use std::fmt::Debug;
 
 /// Made-up sheets, and the shortest ones.
@@ -119,16 +120,6 @@ fn in_cell(sheet: &[u8], cell: Cell) -> Expected<usize> {
     Ok((ids.len(), ids.iter().flat_map(|id| id.to_le_bytes()).collect()))
 }
 
-/// The listing's order is open: puts it in order of the ids.
-fn listed(sheet: &[u8], cell: Cell, out: &mut [u8]) -> Result<usize, fissures::Refusal> {
-    let count = fissures::cells(sheet, cell, out)?;
-    let mut ids: Vec<u16> = out[..2 * count].chunks(2).map(|id| u16::from_le_bytes([id[0], id[1]])).collect();
-    ids.sort();
-    let bytes: Vec<u8> = ids.iter().flat_map(|id| id.to_le_bytes()).collect();
-    out[..2 * count].copy_from_slice(&bytes);
-    Ok(count)
-}
-
 #[test]
 fn cell_listing() {
     let mut rng = Rng::new(5);
@@ -141,8 +132,47 @@ fn cell_listing() {
                 _ => rng.below(figure.clamp(1, 32) as usize) as u64,
             };
             let cell = Cell { figure, column: place(&mut rng), row: place(&mut rng) };
-            compare(&in_cell(&sheet, cell), |out| listed(&sheet, cell, out));
+            compare(&in_cell(&sheet, cell), |out| fissures::cells(&sheet, cell, out));
         }
+    }
+}
+
+/// Crowded sheets: on cell borders, where tips enter two cells at their start, and snapped to a small field.
+fn crowded(rng: &mut Rng) -> Vec<u8> {
+    let (ground, draws) = rng.pick(&[(BORDERS, 60), (BORDERS, 200), (COARSE, 60), (SMALL, 200)]);
+    listing(ground.accepted(rng, draws))
+}
+
+/// Compares a listing with what is expected; it has the same bytes for another order of the commands.
+fn compare_orders(rng: &mut Rng, sheet: &[u8], cell: Cell) {
+    let expected = in_cell(sheet, cell);
+    compare(&expected, |out| fissures::cells(sheet, cell, out));
+    if let Some(other) = made_up::in_another_order(rng, sheet) {
+        compare(&expected, |out| fissures::cells(&other, cell, out));
+    }
+}
+
+#[test]
+fn cell_listing_in_two_orders() {
+    let mut rng = Rng::new(9);
+    for _ in 0..60 {
+        let sheet = crowded(&mut rng);
+        let figure = rng.pick(&[2, 4, 8, 32]);
+        for _ in 0..figure {
+            let place = |rng: &mut Rng| rng.below(figure as usize) as u64;
+            let cell = Cell { figure, column: place(&mut rng), row: place(&mut rng) };
+            compare_orders(&mut rng, &sheet, cell);
+        }
+    }
+}
+
+/// Equal times of entering, many of them with one tip on a border that the cell has and one on a border that it has not.
+#[test]
+fn cell_listing_of_tips_that_enter_together() {
+    let mut rng = Rng::new(10);
+    for _ in 0..1000 {
+        let Entering { sheet, figure, cell: cells::Cell { column, row } } = entering(&mut rng);
+        compare_orders(&mut rng, &sheet, Cell { figure, column, row });
     }
 }
 

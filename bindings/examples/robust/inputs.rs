@@ -1,5 +1,6 @@
 //! The made-up inputs: mostly small sheets on few lines, where equal times, meetings, wall ends and borders are common.
 
+use reference::made_up::entering::entering;
 use reference::made_up::{self, BORDERS, COARSE, GROUNDS, TINY};
 use reference::rng::Rng;
 use reference::sheet::{listing, Command, Records, Track, Wall};
@@ -8,7 +9,8 @@ pub fn undamaged(rng: &mut Rng) -> Vec<u8> {
     match rng.below(20) {
         0 if rng.one_in(50) => made_up::large(rng),
         1 if rng.one_in(50) => full(rng),
-        0..=10 => small(rng),
+        0..=8 => small(rng),
+        9 | 10 => entering(rng).sheet,
         11..=14 => wheel(rng),
         15 => made_up::accepted(rng),
         16 => made_up::nearly_accepted(rng),

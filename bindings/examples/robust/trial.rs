@@ -151,15 +151,16 @@ impl<'a> Trial<'a> {
         }
     }
 
-    /// A cell where a tip starts, or any.
+    /// A cell of a trace, or any.
     fn cell(&mut self) -> Cell {
         let figure = self.figure();
         let (column, row) = (self.line(figure), self.line(figure));
         match self.expected {
             Ok(sheet) if !sheet.rows.is_empty() && FIGURES.contains(&figure) && self.rng.one_in(2) => {
-                let track = self.rng.pick(&sheet.records.tracks);
-                let side = cells::side(figure);
-                Cell { figure, column: u64::from(track.x) / side, row: u64::from(track.y) / side }
+                let Row { id, time, .. } = self.rng.pick(&sheet.rows);
+                let track = sheet.records.tracks.iter().find(|track| track.id == id).expect("a track for each row");
+                let cells::Cell { column, row } = self.rng.pick(&cells::cells_of(track, time, figure));
+                Cell { figure, column, row }
             }
             _ => Cell { figure, column, row },
         }
@@ -175,11 +176,7 @@ impl<'a> Trial<'a> {
         });
         let listed = ids.map(|ids| (ids.len(), ids.iter().flat_map(|id| id.to_le_bytes()).collect::<Vec<u8>>()));
         let expected = listed.as_ref().map(|(count, bytes)| (*count, &bytes[..])).map_err(|refusal| *refusal);
-        self.call(&format!("{cell:?}"), expected, |out| {
-            let count = fissures::cells(input, cell, out)?;
-            sort_ids(&mut out[..2 * count]);
-            Ok(count)
-        });
+        self.call(&format!("{cell:?}"), expected, |out| fissures::cells(input, cell, out));
     }
 
     /// The lent numbers of a session: none, one or more, with any number of rows shown.
@@ -265,14 +262,5 @@ impl<'a> Trial<'a> {
             let call = format!("name {kind} {partner} in {tracks:02x?} {walls:02x?}: {found:?}");
             self.differences.push(format!("{call}\n  expected: {expected:?}"));
         }
-    }
-}
-
-/// The listing's order is open: puts the ids in order.
-fn sort_ids(bytes: &mut [u8]) {
-    let mut ids: Vec<u16> = bytes.chunks(2).map(|id| u16::from_le_bytes([id[0], id[1]])).collect();
-    ids.sort();
-    for (place, id) in bytes.chunks_mut(2).zip(ids) {
-        place.copy_from_slice(&id.to_le_bytes());
     }
 }
