@@ -6,6 +6,7 @@
 pub mod decimals;
 mod ids;
 pub mod legend;
+pub mod listed;
 pub mod listing;
 pub mod picture;
 pub mod roll;

@@ -4,6 +4,7 @@
 use crate::decimals::Decimals;
 use crate::ids;
 use crate::legend;
+use crate::listed::Listed;
 use crate::trace::Trace;
 use crate::view::{in_64ths, View};
 use reference::cells::{side, Cell};
@@ -17,6 +18,8 @@ use std::collections::BTreeSet;
 pub struct Options {
     /// The figure of the grid to draw.
     pub grid: Option<u64>,
+    /// The cell of that grid whose listing is shown.
+    pub cell: Option<Cell>,
     /// The part of the sheet to show, else all that is drawn.
     pub view: Option<View>,
     pub notes: Vec<Note>,
@@ -34,40 +37,44 @@ pub struct Note {
 pub fn draw(walls: &[Wall], traces: &[Trace], options: Options) -> String {
     let cells = |&figure: &u64| traces.iter().flat_map(move |trace| trace.cells(figure));
     let shaded: BTreeSet<Cell> = options.grid.iter().flat_map(cells).collect();
-    let corners = corners(&shaded, options.grid);
+    let listed = options.grid.zip(options.cell).map(|(figure, cell)| Listed::new(traces, figure, cell));
+    let corners = corners(shaded.iter().chain(&options.cell), options.grid);
     let view = options.view.unwrap_or_else(|| View::around(&points(walls, traces, &corners)));
     let (width, height) = view.size();
     let (wide, high) = (width.pixels(), height.pixels());
+    let lines = listed.as_ref().map_or_else(Vec::new, Listed::lines);
     let total = (width + Fraction::whole(legend::WIDTH)).pixels();
+    let total_high = height.max(Fraction::whole(legend::height(&lines) as i128)).pixels();
     let mut svg = format!(
-        "<svg xmlns=\"http://www.w3.org/2000/svg\" width=\"{total}\" height=\"{high}\" \
+        "<svg xmlns=\"http://www.w3.org/2000/svg\" width=\"{total}\" height=\"{total_high}\" \
          font-family=\"sans-serif\" font-size=\"11\">\n\
-         <rect width=\"{total}\" height=\"{high}\" fill=\"#fff\"/>\n\
+         <rect width=\"{total}\" height=\"{total_high}\" fill=\"#fff\"/>\n\
          <rect width=\"{wide}\" height=\"{high}\" fill=\"{}\"/>\n\
          <svg width=\"{wide}\" height=\"{high}\" viewBox=\"{}\">\n<g transform=\"scale(1 -1)\">\n",
         legend::OUTSIDE,
         view.view_box()
     );
     svg += &sheet(&view, "fill=\"#fff\"");
-    svg += &grid(&shaded, options.grid, &view);
+    svg += &grid(&shaded, listed.as_ref(), options.grid, &view);
     svg += &edge(&view);
     svg += &wall_lines(walls, &view);
     svg += &trace_lines(traces, &view);
     svg += &marks(traces, &view);
+    svg += &listed.as_ref().map_or_else(String::new, |listed| listed.rings(&view));
     svg += "</g>\n</svg>\n";
     svg += &format!("<rect width=\"{wide}\" height=\"{high}\" fill=\"none\" stroke=\"#ccc\"/>\n");
     svg += &ids::draw(walls, traces, &view);
     svg += &notes(&options.notes, &view);
-    svg += &legend::draw(&wide, options.grid);
+    svg += &legend::draw(&wide, options.grid, &lines);
     svg + "</svg>\n"
 }
 
-/// Lower left and upper right corners of the shaded cells.
-fn corners(shaded: &BTreeSet<Cell>, figure: Option<u64>) -> Vec<(i64, i64)> {
+/// Lower left and upper right corners of the cells.
+fn corners<'a>(cells: impl Iterator<Item = &'a Cell>, figure: Option<u64>) -> Vec<(i64, i64)> {
     let side = 64 * side(figure.unwrap_or(1));
     let both =
         |cell: &Cell| [0, 1].map(|more| (((cell.column + more) * side) as i64, ((cell.row + more) * side) as i64));
-    shaded.iter().flat_map(both).collect()
+    cells.flat_map(both).collect()
 }
 
 /// All points that the view is to hold.
@@ -83,8 +90,8 @@ fn points(walls: &[Wall], traces: &[Trace], corners: &[(i64, i64)]) -> Vec<(i64,
     points
 }
 
-/// The shaded cells and the lines of the grid.
-fn grid(shaded: &BTreeSet<Cell>, figure: Option<u64>, view: &View) -> String {
+/// The shaded cells, the one whose listing is shown, and the lines of the grid.
+fn grid(shaded: &BTreeSet<Cell>, listed: Option<&Listed>, figure: Option<u64>, view: &View) -> String {
     let Some(figure) = figure else { return String::new() };
     let side = side(figure);
     let mut text = format!("<g fill=\"{}\">\n", legend::TOUCHED);
@@ -92,6 +99,7 @@ fn grid(shaded: &BTreeSet<Cell>, figure: Option<u64>, view: &View) -> String {
         let (x, y) = (column * side, row * side);
         text += &format!("<rect x=\"{x}\" y=\"{y}\" width=\"{side}\" height=\"{side}\"/>\n");
     }
+    text += &listed.map_or_else(String::new, Listed::area);
     text += &format!("</g>\n<g stroke=\"{}\" stroke-width=\"{}\">\n", legend::GRID, view.tenths(7));
     for place in (0..=figure).map(|index| index * side) {
         text += &format!("<path d=\"M{place} 0V4096M0 {place}H4096\"/>\n");

@@ -8,11 +8,13 @@ use sheet_tools::{roll, sheet, trace};
 
 const SVG: &str = env!("CARGO_BIN_EXE_sheet-svg");
 
-/// The options of the stored picture of the example corner, as in the script `pictures`.
+/// The options of the stored pictures of the examples corner and cell, as in the script `pictures`.
 const CORNER: &str = "--grid|8|--view|128|128|1920|896\
     |--note|768|768|1 has one point here:|--note|768|730|the corner\
     |--note|1280|768|2 has no point here\
     |--note|620|528|(512, 512)|--note|1410|528|(1536, 512)";
+
+const CELL: &str = "--grid|8|--cell|1|1|--view|320|256|1216|1152";
 
 /// The picture of an example under some options.
 fn picture(name: &str, options: &[&str]) -> Result<String, String> {
@@ -64,6 +66,45 @@ fn grid_shades_each_cell_once() {
     let svg = picture("A", &["--grid", "8"]).unwrap();
     assert_eq!(svg.matches("width=\"512\"").count(), 8);
     assert!(picture("A", &["--grid", "3"]).unwrap_err().contains("1, 2, 4, 8, 16 or 32"));
+}
+
+/// What the legend says of the tracks that a cell lists.
+fn listed(name: &str, figure: &str, column: &str, row: &str) -> Vec<String> {
+    let svg = picture(name, &["--grid", figure, "--cell", column, row]).unwrap();
+    assert!(svg.contains(&format!(">cell {column} {row} lists:</text>")));
+    let lines = svg.split("</text>").filter(|part| part.contains(", enters at "));
+    lines.map(|part| part.rsplit('>').next().unwrap().to_string()).collect()
+}
+
+#[test]
+fn a_cell_lists_by_entering() {
+    // 3 and 4 come to two borders of the cell at one time, 3 to the one that the cell has not.
+    let lines = ["7, enters at 0/1", "3, enters at 8/1", "4, enters at 8/1", "1, enters at 16/1"];
+    assert_eq!(listed("cell", "8", "1", "1"), lines);
+    // 7 starts on the border of two cells and leaves it at once.
+    assert_eq!(listed("cell", "8", "2", "1"), ["3, enters at 0/1", "7, enters at 0/1"]);
+    assert_eq!(listed("cell", "8", "7", "7"), [""; 0]);
+    assert_eq!(listed("D", "1", "0", "0").len(), 64);
+}
+
+#[test]
+fn a_cell_has_a_ring_at_each_entry_and_room_for_its_listing() {
+    let svg = picture("A", &["--grid", "1", "--cell", "0", "0", "--view", "0", "0", "4000", "0"]).unwrap();
+    assert!(svg.contains("<title>1. track 1 enters at 0/1</title>") && svg.contains("cx=\"100\" cy=\"100\" r="));
+    assert!(svg.contains("<title>2. track 2 enters at 0/1</title>"));
+    // The drawing is 200 high, the legend 9 lines and those of the cell and its two tracks.
+    assert!(svg.starts_with("<svg xmlns=\"http://www.w3.org/2000/svg\" width=\"840\" height=\"260\""));
+}
+
+#[test]
+fn a_cell_is_one_of_the_grid() {
+    let wrong = |options: &[&str]| picture("A", options).unwrap_err();
+    assert_eq!(wrong(&["--cell", "0", "0"]), "sheet-svg: --cell is for a grid: give --grid as well\n");
+    for [column, row] in [["8", "0"], ["0", "8"]] {
+        let said = wrong(&["--cell", column, row, "--grid", "8"]);
+        assert_eq!(said, "sheet-svg: the cell is outside the grid\n");
+    }
+    assert!(wrong(&["--grid", "8", "--cell", "-1", "0"]).contains("usage"));
 }
 
 #[test]
@@ -134,14 +175,18 @@ fn ids_stand_apart() {
         ids.len()
     });
     // There is no room for half of D's ids with two digits, nor for F's wall between trace 1 and the edge.
-    assert_eq!(found, [2, 2, 2, 36, 4, 2, 2, 2, 2, 1, 1, 2, 0, 4]);
+    assert_eq!(found, [2, 2, 2, 36, 4, 2, 2, 2, 2, 1, 1, 2, 0, 4, 6]);
 }
 
 #[test]
 fn stored_pictures_are_the_drawn_ones() {
     let stored = |name: &str| std::fs::read_to_string(path(&format!("docs/pictures/{name}.svg")));
     for name in NAMES {
-        let options = if name == "corner" { CORNER.split('|').collect() } else { vec![] };
+        let options: Vec<&str> = match name {
+            "corner" => CORNER.split('|').collect(),
+            "cell" => CELL.split('|').collect(),
+            _ => vec![],
+        };
         assert_eq!(stored(name).unwrap(), picture(name, &options).unwrap(), "{name}");
     }
     for name in ["A", "C", "F", "G", "H2"] {

@@ -1,6 +1,6 @@
 //! Draws a sheet with its roll, which is the output of the program `roll` for that sheet.
 
-use reference::cells::FIGURES;
+use reference::cells::{Cell, FIGURES};
 use reference::sheet::Records;
 use sheet_tools::picture::{draw, Note, Options};
 use sheet_tools::view::View;
@@ -8,7 +8,8 @@ use sheet_tools::{roll, sheet, trace};
 use std::io::{self, Write};
 use std::process::ExitCode;
 
-const USAGE: &str = "usage: sheet-svg [--grid G] [--view AX AY BX BY] [--note X Y WORDS]… SHEET ROLL > PICTURE";
+const USAGE: &str =
+    "usage: sheet-svg [--grid G [--cell COLUMN ROW]] [--view AX AY BX BY] [--note X Y WORDS]… SHEET ROLL > PICTURE";
 
 fn main() -> ExitCode {
     match run() {
@@ -45,6 +46,11 @@ fn parse(arguments: &[String]) -> Result<(Options, [&str; 2]), String> {
                 options.grid = Some(known.ok_or("the grid figure is 1, 2, 4, 8, 16 or 32")?);
                 2
             }
+            ["--cell", column, row, ..] => {
+                let (Ok(column), Ok(row)) = (column.parse(), row.parse()) else { return Err(USAGE.into()) };
+                options.cell = Some(Cell { column, row });
+                3
+            }
             ["--view", ax, ay, bx, by, ..] => {
                 let [ax, ay, bx, by] = [ax, ay, bx, by].map(str::parse);
                 let corners = (ax, ay, bx, by);
@@ -57,9 +63,18 @@ fn parse(arguments: &[String]) -> Result<(Options, [&str; 2]), String> {
                 options.notes.push(Note { x, y, words: words.into() });
                 4
             }
-            [sheet, roll] => return Ok((options, [sheet, roll])),
+            [sheet, roll] => return check_cell(&options).map(|()| (options, [sheet, roll])),
             _ => return Err(USAGE.into()),
         };
         words.drain(..taken);
+    }
+}
+
+/// A cell is one of the grid that is drawn.
+fn check_cell(options: &Options) -> Result<(), String> {
+    match (options.cell, options.grid) {
+        (Some(_), None) => Err("--cell is for a grid: give --grid as well".into()),
+        (Some(cell), Some(figure)) if cell.column.max(cell.row) >= figure => Err("the cell is outside the grid".into()),
+        _ => Ok(()),
     }
 }

@@ -5,7 +5,7 @@ use std::path::PathBuf;
 use std::process::{Command, Stdio};
 
 /// The examples that are accepted.
-pub const NAMES: [&str; 14] = ["A", "B", "C", "D", "E", "F", "G", "H1", "H2", "I1", "I2", "J", "K", "corner"];
+pub const NAMES: [&str; 15] = ["A", "B", "C", "D", "E", "F", "G", "H1", "H2", "I1", "I2", "J", "K", "corner", "cell"];
 
 /// The path of a file in the repository.
 pub fn path(file: &str) -> String {
