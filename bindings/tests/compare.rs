@@ -137,6 +137,18 @@ fn cell_listing() {
     }
 }
 
+/// The example sheet `cell`, whose picture shows this order.
+#[test]
+fn cell_listing_of_the_example() {
+    let sheet = include_bytes!("../../examples/cell.sheet");
+    let listed = |column: u64| {
+        let mut out = [0; 8];
+        let count = fissures::cells(sheet, Cell { figure: 8, column, row: 1 }, &mut out).expect("room for four ids");
+        out.chunks(2).take(count).map(|id| u16::from_le_bytes([id[0], id[1]])).collect::<Vec<_>>()
+    };
+    assert_eq!([listed(0), listed(1), listed(2)], [vec![4], vec![7, 3, 4, 1], vec![3, 7]]);
+}
+
 /// Crowded sheets: on cell borders, where tips enter two cells at their start, and snapped to a small field.
 fn crowded(rng: &mut Rng) -> Vec<u8> {
     let (ground, draws) = rng.pick(&[(BORDERS, 60), (BORDERS, 200), (COARSE, 60), (SMALL, 200)]);
