@@ -1,5 +1,4 @@
 -- What each call on a sheet's bytes leaves: its two numbers, then what it may write, in the order of its arguments (SHEETS 11.1, 11.2).
-use mathlib.Core.Path.{_≡_}
 use mathlib.Core.List.{List}
 use Prim.Native.Nat.{ℕ}
 use lib.ListN.{length}
@@ -10,14 +9,12 @@ use Rattle.sheet.specs.Scan.{verdictOf, commandsOf}
 use Rattle.sheet.specs.Ordered.{orderedForm}
 use Rattle.sheet_reader.specs.Reading.{recordsOf}
 use Rattle.rule.specs.RowBytes.{rollBytes}
-use Rattle.rule.specs.Rows.{timeOf}
 use Rattle.rule.specs.Selection.{rollOf}
 use Rattle.cells.specs.CellsEntered.{cellsEntered}
-use Rattle.cells.specs.Grid.{side}
 use Rattle.plain_run.specs.Rolled.{rollReturns}
 use Rattle.grid_run.specs.GridRolled.{gridReturns}
-use Rattle.cell_listing.specs.CellIds.{CellIds}
-use Rattle.cell_listing.specs.Listed.{idBytes, cellCheck, listReturns, cell}
+use Rattle.cell_listing.specs.CellIds.{cellIds}
+use Rattle.cell_listing.specs.Listed.{idBytes, listReturns, cell}
 use Rattle.fissures_c.specs.Answers.{number, other, leaves}
 
 -- reading a sheet and writing its ordered form (SHEETS 2.6)
@@ -44,11 +41,8 @@ gridCall s g out cells =
     let R = gridReturns (verdictOf s) S g (length out) in
     (number R, other R, countAfter R (cellsEntered S g) cells, after R (rollBytes (rollOf S)) out)
 
--- reading a sheet and writing the ids of one cell, whose order is open (SHEETS 6.10)
-abbrev pub cellAnswer : List ℕ → ℕ → ℕ → ℕ → List ℕ → ℕ → Returned
-cellAnswer s g column row ids lent = listReturns (andThen (verdictOf s) (cellCheck g column row)) (length ids) lent
-
-pub record CellsListed (s : List ℕ) (g column row : ℕ) (before : List ℕ) (left : ℕ × ℕ × List ℕ) : Type 0 where
-  pub ids : List ℕ
-  pub are : let S = listing (commandsOf s) in andThen (verdictOf s) (cellCheck g column row) ≡ accepted → CellIds (timeOf (rollOf S)) (S .tracks) (side g) (cell column row) ids
-  pub leaves-them : left ≡ leaves (cellAnswer s g column row ids (length before)) (idBytes ids) before
+-- reading a sheet and writing the ids of one cell (SHEETS 6.10)
+abbrev pub cellsCall : List ℕ → ℕ → ℕ → ℕ → List ℕ → ℕ × ℕ × List ℕ
+cellsCall s g column row out =
+    let S = listing (commandsOf s) in
+    leaves (listReturns (verdictOf s) S g column row (length out)) (idBytes (cellIds S g (cell column row))) out

@@ -4,7 +4,7 @@ ghost use mathlib.Core.Path.{_≡_};
 ghost use Rattle.sheet.specs.Scan.{verdictOf};
 ghost use Rattle.sheet.specs.Answer.{answered};
 ghost use Rattle.fissures_c.specs.Answers.{told};
-ghost use Rattle.fissures_c.specs.Calls.{orderCall, plainCall, gridCall, CellsListed};
+ghost use Rattle.fissures_c.specs.Calls.{orderCall, plainCall, gridCall, cellsCall};
 ghost use Rattle.fissures_c.specs.Steps.{Takes, startCall, advanceCall, runningCall, endingOf, nameCall};
 use grid_run::GridRolled;
 use names::place::Place;
@@ -92,7 +92,7 @@ pub extern "C" fn fissure_grid(
     }
 }
 
-// Reads a sheet and writes the ids, 2 bytes each, of the tracks with a point in one cell of the grid of figure g; gives their number.
+// Reads a sheet and writes the ids, 2 bytes each, of the tracks with a point in one cell of the grid of figure g, as their traces enter it; gives their number.
 #[no_mangle]
 pub extern "C" fn fissure_cells(
     s: &[u8],
@@ -102,7 +102,7 @@ pub extern "C" fn fissure_cells(
     out: &mut [u8],
     second: &mut u64,
 ) -> u64
-    ensures { λ r. ⌜ CellsListed (now (s .entry)) g column row (now (out .entry)) (r, now (second .exit), now (out .exit)) ⌝ }
+    ensures { λ r. ⌜ (r, now (second .exit), now (out .exit)) ≡ cellsCall (now (s .entry)) g column row (now (out .entry)) ⌝ }
 {
     tell(
         cell_listing::cell_tracks_bytes(s, g, column, row, out),

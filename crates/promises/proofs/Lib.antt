@@ -3,6 +3,7 @@ pub mod Sheets
 pub mod Runs
 -- what each reader relies on
 pub mod Desk
+pub mod CellView
 pub mod Mapping
 pub mod Partners
 pub mod Archive

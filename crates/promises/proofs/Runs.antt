@@ -44,11 +44,11 @@ module _ (l : List Command) (acc : Accepted (listing l)) where
 
   -- ---- in whatever order the sheet is given
 
-  given-accepted : {v : Returned} {T : Listing} → Given l v T → v ≡ accepted
+  pub given-accepted : {v : Returned} {T : Listing} → Given l v T → v ≡ accepted
   given-accepted (in-bytes k p) = order-verdict p (commands-fit l acc) (scanned l acc)
   given-accepted (in-records s p) = order-verdict p (commands-fit l acc) (scanned l acc)
 
-  given-records : {v : Returned} {T : Listing} → Given l v T → Reordered S T
+  pub given-records : {v : Returned} {T : Listing} → Given l v T → Reordered S T
   given-records (in-bytes k p) =
       subst (λ (z : List Command). Reordered S (listing z)) (sym (read-back {l = k} (λ c m. commands-fit l acc c (perm-mem (Permᴰ·symm p) c m)))) (reordered p)
   given-records (in-records s p) = subst (λ (z : Listing). Reordered S z) (listed (handedIn s)) (reordered p)

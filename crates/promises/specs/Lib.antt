@@ -1,6 +1,7 @@
 -- what each reader relies on, as statements about the calls
 pub mod Desk
--- the runs and the rows that they leave, of which the other three speak
+pub mod CellView
+-- the runs and the rows that they leave, of which the last three speak
 pub mod Runs
 pub mod Mapping
 pub mod Partners

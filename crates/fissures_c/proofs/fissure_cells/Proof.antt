@@ -16,7 +16,7 @@ same-length c = search needs
 returns : tie.Need-returns
 returns c =
     let h = c .before .before .before .before .cell-tracks-bytes .ensures in
-    record { ids = h .ids; are = h .are; leaves-them = left (c .tell .ensures) (h .answer) (h .buffer) }
+    left (c .tell .ensures) (h .answer) (h .buffer)
 
 pub fissure-cells-spec : {M : Type 1} → statement M
 fissure-cells-spec =
