@@ -2,7 +2,7 @@
 -- What the contract of `grid_turn::turn` says of an event that leaves is `InTime`. The cell of a start has no event: it is entered at time 0 (`first-entered` of crate `cells`).
 use mathlib.Core.Logic.{_⊎_, inl, inr}
 use Prim.Native.Nat.{ℕ}
-use Rattle.fraction.specs.Time.{Time, _≈ᵗ_}
+use Rattle.fraction.specs.Time.{_≈ᵗ_}
 use Rattle.fraction.proofs.TimeOrder.{≈ᵗ-trans, ≈ᵗ→≤ᵗ, <ᵗ-≤ᵗ-trans, ≤ᵗ-<ᵗ-trans}
 use Rattle.sheet.specs.declared.Track.{Track}
 use Rattle.sheet.specs.Listing.{Listing}

@@ -1,7 +1,7 @@
 -- The one list of a cell. Main theorems: `the-ids`, it has exactly the tracks with a point in the cell, as they enter it; `no-other-ids`, no other list has; `same-tracks`, it is the same for every order of the tracks.
-use mathlib.Core.Path.{_≡_, refl, sym, ap, subst, _∙_}
+use mathlib.Core.Path.{_≡_, refl, sym, subst, _∙_}
 use mathlib.Core.Logic.{_⊎_, inl, inr}
-use mathlib.Core.Bool.{Bool, true}
+use mathlib.Core.Bool.{Bool}
 use mathlib.Core.List.{List, map, Memᴰ·map, Memᴰ·of-map, List·Permᴰ, Permᴰ·symm}
 use Prim.Native.Nat.{ℕ}
 use Rattle.fraction.specs.Time.{Time}

@@ -1,8 +1,8 @@
 -- The cells of the grid that pass the test. Main theorem: `touched-of`, they are exactly the cells of the trace, each once.
-use mathlib.Core.Path.{_≡_, refl, sym, ap, subst, _∙_}
+use mathlib.Core.Path.{_≡_, refl, ap, subst}
 use mathlib.Core.Logic.{_⊎_, inl, inr}
 use mathlib.Core.Bool.{Bool, true, false, cond}
-use mathlib.Core.List.{List, [], _∷_, _++_, List·Memᴰ·head, List·Memᴰ·tail, List·Memᴰ·not-nil, List·Memᴰ·cases-cons, List·Memᴰ·append-cases, Memᴰ·append-left, Memᴰ·append-right}
+use mathlib.Core.List.{List, _∷_, _++_, List·Memᴰ·head, List·Memᴰ·tail, List·Memᴰ·not-nil, List·Memᴰ·cases-cons, List·Memᴰ·append-cases, Memᴰ·append-left, Memᴰ·append-right}
 use Prim.Native.Nat.{ℕ, zero, suc, _<_}
 use native.Mathlib.Nat.{eq-or-lt-of-le}
 use native.Mathlib.Omega.{arith}
@@ -12,7 +12,7 @@ use Rattle.sheet.specs.Listing.{_∈_}
 use Rattle.rule.specs.Motion.{Inside}
 use Rattle.cells.specs.declared.Cell.{Cell}
 use Rattle.cells.specs.Grid.{Figure, side}
-use Rattle.cells.specs.Touched.{HasPoint, Distinct, none, one-more, CellsOf}
+use Rattle.cells.specs.Touched.{Distinct, none, one-more, CellsOf}
 use Rattle.cells.specs.OneCell.{hasPoint}
 use Rattle.cells.specs.Passing.{passing}
 use Rattle.cells.specs.CellsEntered.{columnCells, gridCells, touched}

@@ -34,28 +34,29 @@ module _ (l : List Command) (acc : Accepted (listing l)) where
       let (h, r) = the-ids (timeOf (rollOf S)) (side g) k (S .tracks) (acc .track-ids) in
       record { are = h; sorted = r; no-other = no-other-ids (timeOf (rollOf S)) (side g) k (S .tracks) (acc .track-ids) }
 
-  module _ {g column row : ℕ} {before : List ℕ} where
+  module _ (g column row : ℕ) where
     abbrev ids : List ℕ
     ids = cellIds S g (cell column row)
 
-    -- what is said of the records in any order is said of them as l lists them
-    as-listed : {exit : List ℕ} {x : Returned} → Call l g column row before exit x → Ends (listReturns accepted S g column row (length before)) (idBytes ids) before x exit
-    as-listed (call {v} {T} r i h) =
-        let e = given-accepted l acc i in
-        let c = same-ids (given-records l acc i) acc g (cell column row) in
-        let q : listReturns v T g column row (length before) ≡ listReturns accepted S g column row (length before) = rw (e, c) refl in
-        (h .answer ∙ q, rw (q, ← c) at (h .buffer))
+    module _ {before : List ℕ} where
+      -- what is said of the records in any order is said of them as l lists them
+      as-listed : {exit : List ℕ} {x : Returned} → Call l g column row before exit x → Ends (listReturns accepted S g column row (length before)) (idBytes ids) before x exit
+      as-listed (call {v} {T} r i h) =
+          let e = given-accepted l acc i in
+          let c = same-ids (given-records l acc i) acc g (cell column row) in
+          let q : listReturns v T g column row (length before) ≡ listReturns accepted S g column row (length before) = rw (e, c) refl in
+          (h .answer ∙ q, rw (q, ← c) at (h .buffer))
 
-    shown : {exit : List ℕ} {x : Returned} → Call l g column row before exit x → Figure g → column < g → row < g → idWidth * length ids ≤ length before → Shown ids before exit x
-    unfolding andThen cellCheck figureCheck
-    shown c f i j room =
-        let (a, b) = as-listed c in
-        let inside : andThen accepted (cellCheck g column row) ≡ accepted = rw (figure-is f, lt-ltb column g i, lt-ltb row g j) refl in
-        let told = said-given (idWidth * length ids) (length before) (length ids) inside room in
-        record { number = a ∙ told; bytes = b ∙ put (idBytes ids) before told ∙ ap (λ (n : ℕ). idBytes ids ++ drop n before) (bytes-length ids) }
+      shown : {exit : List ℕ} {x : Returned} → Call l g column row before exit x → Figure g → column < g → row < g → idWidth * length ids ≤ length before → Shown ids before exit x
+      unfolding andThen cellCheck figureCheck
+      shown c f i j room =
+          let (a, b) = as-listed c in
+          let inside : andThen accepted (cellCheck g column row) ≡ accepted = rw (figure-is f, lt-ltb column g i, lt-ltb row g j) refl in
+          let told = said-given (idWidth * length ids) (length before) (length ids) inside room in
+          record { number = a ∙ told; bytes = b ∙ put (idBytes ids) before told ∙ ap (λ (n : ℕ). idBytes ids ++ drop n before) (bytes-length ids) }
 
-    same : {exit exit′ : List ℕ} {x x′ : Returned} → Call l g column row before exit x → Call l g column row before exit′ x′ → (x ≡ x′) × (exit ≡ exit′)
-    same c d = let (a, b) = as-listed c in let (e, f) = as-listed d in (a ∙ sym e, b ∙ sym f)
+      same : {exit exit′ : List ℕ} {x x′ : Returned} → Call l g column row before exit x → Call l g column row before exit′ x′ → (x ≡ x′) × (exit ≡ exit′)
+      same c d = let (a, b) = as-listed c in let (e, f) = as-listed d in (a ∙ sym e, b ∙ sym f)
 
 pub cell-view : (l : List Command) → Accepted (listing l) → CellView l
 cell-view l acc =
@@ -64,6 +65,6 @@ cell-view l acc =
       is-roll = roll-of (listing l) acc;
       ids = cellIds (listing l);
       view = view l acc;
-      shown = shown l acc;
-      same = same l acc;
+      shown = λ {g} {column} {row} c. shown l acc g column row c;
+      same = λ {g} {column} {row} c d. same l acc g column row c d;
     }
