@@ -89,20 +89,8 @@ impl Call {
     pub fn check(self, timed: &Timed) {
         let (mut ours, mut theirs) = ([0; LONGEST_ROLL], [0; LONGEST_ROLL]);
         let numbers = (self.proved(timed, &mut ours), self.outside(timed, &mut theirs));
-        if let Call::Cells(_) = self {
-            forget_order(&mut ours, numbers.0);
-            forget_order(&mut theirs, numbers.1);
-        }
         assert!(numbers.0 == numbers.1 && ours == theirs, "{}, {}: answers differ", timed.name(), self.name());
     }
-}
-
-/// The order of a listing's ids is open (SHEETS 6.10): so many of them are put in rising order. Where it is promised this goes, and the
-/// bytes are compared as they are.
-fn forget_order(out: &mut [u8], ids: usize) {
-    let mut listed: Vec<u16> = out[..2 * ids].chunks(2).map(|id| u16::from_le_bytes([id[0], id[1]])).collect();
-    listed.sort_unstable();
-    put_bytes(&listed.into_iter().flat_map(u16::to_le_bytes).collect::<Vec<u8>>(), out);
 }
 
 fn put_bytes(bytes: &[u8], out: &mut [u8]) {
