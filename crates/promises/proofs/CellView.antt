@@ -41,7 +41,7 @@ module _ (l : List Command) (acc : Accepted (listing l)) where
     module _ {before : List ℕ} where
       -- what is said of the records in any order is said of them as l lists them
       as-listed : {exit : List ℕ} {x : Returned} → Call l g column row before exit x → Ends (listReturns accepted S g column row (length before)) (idBytes ids) before x exit
-      as-listed (call {v} {T} r i h) =
+      as-listed (call {v} {S = T} r i h) =
           let e = given-accepted l acc i in
           let c = same-ids (given-records l acc i) acc g (cell column row) in
           let q : listReturns v T g column row (length before) ≡ listReturns accepted S g column row (length before) = rw (e, c) refl in
