@@ -60,6 +60,18 @@ counts-all T g [] (c ∷ es) e f = absurd (omega arith)
 counts-all T g (a ∷ l) [] e f = absurd (omega arith)
 counts-all T g (a ∷ l) (c ∷ es) e f = and-track c (f 0 (omega arith)) (counts-all T g l es (omega arith) (λ j h. f (suc j) (omega arith)))
 
+-- a tip that has ended has entered exactly the cells of its trace
+module _ {S : Listing} {g k : ℕ} {w : Sweep} (go : Going S g k w) {j : ℕ} (h : j < length (S .tracks)) (over : tipIn (w .crowd .tips) j .ended ≡ 0 → ⊥) where
+  end-is : endOf (tipIn (w .crowd .tips) j) ≈ᵗ timeOf (rollOf S) (tipAt S j .id)
+  end-is =
+      let e = go .state .looked .ends .ended j h over in
+      let (r, m, i, f) = up-known (go .done) zeroᵗ (tipAt S j .id) (e .row) (e .written) (e .named) in
+      let z : timeOf (rollOf S) (tipAt S j .id) ≡ time r = ap (timeOf (rollOf S)) (sym i) ∙ timeOf-row (rollOf S) r (roll-of S (go .state .accepted) .meets .is-set .distinct) (known-roll (go .rows) r m) in
+      subst (λ (t : Time). endOf (tipIn (w .crowd .tips) j) ≈ᵗ t) (f ∙ sym z) (≈ᵗ-sym (e .stops zeroᵗ))
+
+  pub ended-cells : CellsOf (tipAt S j) (timeOf (rollOf S) (tipAt S j .id)) (side g) (cellsAt (go .es) j)
+  ended-cells = cells-same end-is (go .state .looked .gone j h over)
+
 module _ {S : Listing} {g k : ℕ} {w : Sweep} (go : Going S g k w) (nothing : (j : ℕ) → slot (w .crowd .pending) j ≡ none) where
   abbrev n : ℕ
   n = length (S .tracks)
@@ -89,20 +101,10 @@ module _ {S : Listing} {g k : ℕ} {w : Sweep} (go : Going S g k w) (nothing : (
       pick (yes h) = absurd (more h)
       pick (no h) = omega (arith, few)
 
-  end-is : (j : ℕ) → j < n → endOf (tipIn ts j) ≈ᵗ timeOf (rollOf S) (tipAt S j .id)
-  end-is j h =
-      let e = go .state .looked .ends .ended j h (all-over j h) in
-      let (r, m, i, f) = up-known (go .done) zeroᵗ (tipAt S j .id) (e .row) (e .written) (e .named) in
-      let z : timeOf (rollOf S) (tipAt S j .id) ≡ time r = ap (timeOf (rollOf S)) (sym i) ∙ timeOf-row (rollOf S) r (roll-of S (go .state .accepted) .meets .is-set .distinct) (known-roll (go .rows) r m) in
-      subst (λ (t : Time). endOf (tipIn ts j) ≈ᵗ t) (f ∙ sym z) (≈ᵗ-sym (e .stops zeroᵗ))
-
-  each-cells : (j : ℕ) → j < n → CellsOf (tipAt S j) (timeOf (rollOf S) (tipAt S j .id)) (side g) (cellsAt (go .es) j)
-  each-cells j h = cells-same (end-is j h) (go .state .looked .gone j h (all-over j h))
-
   pub closed-count : Counted (timeOf (rollOf S)) g (S .tracks) (w .entered)
   closed-count =
       subst (λ (z : ℕ). Counted (timeOf (rollOf S)) g (S .tracks) z) (sym (go .state .listed .counted))
-      (counts-all (timeOf (rollOf S)) g (S .tracks) (go .es) (go .state .es-long) each-cells)
+      (counts-all (timeOf (rollOf S)) g (S .tracks) (go .es) (go .state .es-long) (λ j h. ended-cells go h (all-over j h)))
 
   -- all rows are out, and the cells are counted (SHEETS 6.6)
   pub closed : (k ≡ length (S .tracks)) × (w .entered ≡ cellsEntered S g)

@@ -1,12 +1,13 @@
--- When a cell entry leaves the queue. Main theorems: `before-end`, a tip that came to a cell before anything could end it came to it before its end, as the rule has it; `cell-time`, the time of the entry's key is the time at which the trace enters the cell.
+-- When a cell entry leaves the queue. Main theorems: `before-end`, a tip that came to a cell before anything could end it came to it before its end, as the rule has it; `cell-time`, the time of the entry's key is the time at which the trace enters the cell; `entries-to-come`, what leaves the queue is not later than any entry of a cell that is still to come.
+use mathlib.Core.Bool.{Bool, true, false}
 use mathlib.Core.List.{List, Memᴰ·append-left}
 use mathlib.Core.Logic.{_⊎_, inl, inr, _≢_}
 use mathlib.Core.Path.{_≡_, refl, sym, ap, _∙_, subst}
-use Prim.Native.Nat.{ℕ}
+use Prim.Native.Nat.{ℕ, suc, pred}
 use native.Mathlib.Omega.{arith}
-use lib.ListN.{drop, take-append-drop}
+use lib.ListN.{length, drop, take-append-drop}
 use Rattle.fraction.specs.Time.{Time, _≤ᵗ_}
-use Rattle.fraction.proofs.TimeOrder.{≤ᵗ-trans, ≤ᵗ-<ᵗ-trans, <ᵗ-irrefl, at-most}
+use Rattle.fraction.proofs.TimeOrder.{≤ᵗ-trans, ≤ᵗ-<ᵗ-trans, <ᵗ→≤ᵗ, <ᵗ-irrefl, ≈ᵗ→≤ᵗ, at-most}
 use Rattle.sheet.specs.declared.Track.{Track}
 use Rattle.sheet.specs.declared.Wall.{Wall}
 use Rattle.sheet.specs.Accepted.{Accepted}
@@ -31,20 +32,28 @@ use Rattle.rule.proofs.Running.{ended?}
 use Rattle.rule.proofs.Selection.{up-all, up-fresh}
 use Rattle.rule.proofs.Walls.{WallMeans, clear, touches}
 use Rattle.cause.specs.declared.Cause.{Cause}
-use Rattle.cause.specs.Cause.{Fine}
+use Rattle.cause.specs.Cause.{tipAt, Fine}
 use Rattle.cells.specs.declared.Cell.{Cell}
 use Rattle.cells.specs.EnteredAt.{EnteredAt}
-use Rattle.cells.specs.Cut.{past, _<ᶜ_}
+use Rattle.cells.specs.Cut.{After, before, past, _≤ᶜ_, _<ᶜ_}
+use Rattle.cells.specs.Grid.{side, InCell}
 use Rattle.cells.specs.OneCell.{entry, exit}
-use Rattle.cells.proofs.Cut.{after-den, after-mono}
-use Rattle.cells.proofs.Entry.{past-before, before-past, point-by, entered-at}
+use Rattle.cells.proofs.Cut.{before-true, before-false, after-den, after-mono}
+use Rattle.cells.proofs.Entry.{cell-entry, cell-exit, past-before, before-past, point-by, entered-at}
 use Rattle.cells.specs.Walk.{next}
 use Rattle.cells.proofs.Walk.{Stepped}
+use Rattle.event_queue.specs.declared.Event.{Event}
+use Rattle.event_queue.specs.declared.Key.{Key}
 use Rattle.event_queue.specs.Key as key
+use Rattle.event_queue.specs.Queue.{First}
+use Rattle.tips.specs.Tips.{Tip, tipIn}
 use Rattle.pending_events.specs.Pending.{pendingKey}
-use Rattle.pending_events.proofs.Order.{pending-by, own-entry}
-use Rattle.grid_state.specs.State.{Ahead}
-use Rattle.grid_state.specs.Run.{Rows}
+use Rattle.pending_events.proofs.Order.{enters-no, pending-by, own-entry}
+use Rattle.grid_steps.specs.Steps.{entryIn}
+use Rattle.grid_state.specs.State.{cellsAt, Runs, Ahead}
+use Rattle.grid_state.specs.Run.{Rows, Going}
+use Rattle.grid_state.specs.Sweep.{Sweep}
+use Rattle.grid_state.proofs.Queue.{none-out}
 
 -- the rows so far are rows of the roll
 pub known-roll : {S : Listing} {done : List Row} {k : ℕ} → Rows S done k → (d : Row) → d ∈ done → d ∈ rollOf S
@@ -116,3 +125,46 @@ module _ {S : Listing} (acc : Accepted S) {done : List Row} (known : (d : Row) �
     where
       numbers : (pendingKey a s k c .at .num ≡ exit a s k .num) × (pendingKey a s k c .at .den ≡ exit a s k .den)
       numbers = pending-by a s k c (λ x. (x .late ≡ 1 → ⊥) → (x .at .num ≡ exit a s k .num) × (x .at .den ≡ exit a s k .den)) (λ e h. (refl, refl)) (λ e h. absurd (h refl)) l
+
+-- ---- what leaves is not later than an entry to come
+
+pending-time : (a : Track) (s : ℕ) (k : Cell) (c : Cause) → Fine c → (t : Time) → After (exit a s k) t → key.time (pendingKey a s k c) ≤ᵗ t
+unfolding past
+pending-time a s k c f t h =
+    pending-by a s k c (λ x. key.time x ≤ᵗ t)
+    (λ e. let z : suc (pred (exit a s k .den)) ≡ exit a s k .den = omega (arith, after-den (exit a s k) t h) in record { le = rw z (omega (arith, h .on)) })
+    (λ e. let x = enters-no a s k c f e .to t h in record { le = omega (arith, x .on) })
+
+not-after-time : {p q : Key} → key.NotAfter p q → key.time p ≤ᵗ key.time q
+not-after-time (key.sooner l) = <ᵗ→≤ᵗ l
+not-after-time (key.milder e l) = ≈ᵗ→≤ᵗ e
+not-after-time (key.level e z l) = ≈ᵗ→≤ᵗ e
+
+-- an event leaves while the tip at j, which runs, has not yet entered cell m
+module _ {S : Listing} {g n : ℕ} {w : Sweep} (go : Going S g n w) {tip : ℕ} {e : Event} (f : First (w .crowd .pending) tip e) {j : ℕ} (r : Runs (length (S .tracks)) (w .crowd .tips) j) where
+  abbrev a : Track
+  a = tipAt S j
+
+  abbrev here : Tip
+  here = tipIn (w .crowd .tips) j
+
+  not-out : j ≢ 256
+  not-out = none-out (go .state .accepted .few-tracks) j (r .0)
+
+  module _ {m : Cell} (not-yet : ¬ (m ∈ cellsAt (go .es) j)) where
+    -- the cell in which the tip is will be left first
+    left-first : entry a (side g) m <ᶜ exit a (side g) m → exit a (side g) (here .cell) ≤ᶜ entry a (side g) m
+    left-first h = pick (before (entry a (side g) m) (exit a (side g) (here .cell))) refl
+      where
+        pick : (b : Bool) → before (entry a (side g) m) (exit a (side g) (here .cell)) ≡ b → exit a (side g) (here .cell) ≤ᶜ entry a (side g) m
+        pick true z = absurd (not-yet (go .state .placed .at j r not-out .all m h (before-true z)))
+        pick false z = before-false z
+
+    pub entries-to-come : {T σ : Time} → EnteredAt a T (side g) m σ → key.time (f .key) ≤ᵗ σ
+    entries-to-come h = h .greatest (key.time (f .key)) (λ t l o i. <ᵗ-irrefl (≤ᵗ-<ᵗ-trans (by t i) l))
+      where
+        by : (t : Time) → InCell a (side g) m t → key.time (f .key) ≤ᵗ t
+        by t i =
+            let x = left-first (record { at = t; above = cell-entry i; below = cell-exit i }) in
+            ≤ᵗ-trans (not-after-time (f .least j (entryIn S (side g) (w .crowd .tips) j) (go .state .queued .due j r not-out)))
+            (pending-time a (side g) (here .cell) (here .best) (go .state .looked .fine j (r .0)) t (x .to t (cell-entry i)))
