@@ -74,8 +74,8 @@ uint64_t fissure_plain(const uint8_t *sheet, size_t length, uint8_t *out, size_t
 uint64_t fissure_grid(const uint8_t *sheet, size_t length, uint64_t figure, uint8_t *out, size_t room, uint64_t *second,
                       uint64_t *cells);
 
-/* Writes the ids of the tracks with a point in one cell, 2 bytes each and each once; second: their number. They come by the time at which
- * the trace enters the cell, equal times by rising id, however the sheet is listed (docs/SHEETS.md, 6.4 and 6.10). */
+/* Writes the ids of the tracks with a point in one cell, 2 bytes each and each once; second: their number. They come by when their
+ * traces enter the cell, those of one time by rising id, however the sheet is listed (docs/SHEETS.md, 6.4 and 6.10). */
 uint64_t fissure_cells(const uint8_t *sheet, size_t length, uint64_t figure, uint64_t column, uint64_t row, uint8_t *out, size_t room,
                        uint64_t *second);
 

@@ -78,8 +78,8 @@ pub fn grid(sheet: &[u8], figure: u64, out: &mut [u8]) -> Result<GridRoll, Refus
     rows.map(|rows| GridRoll { rows, cells })
 }
 
-/// Writes the ids of the tracks with a point in the cell, 2 bytes each, and gives their number. They come by the time at which the trace
-/// enters the cell, equal times by rising id (SHEETS 6.4 and 6.10).
+/// Writes the ids of the tracks with a point in the cell, 2 bytes each, and gives their number. They come by when their traces enter the
+/// cell, those of one time by rising id (SHEETS 6.4 and 6.10).
 pub fn cells(sheet: &[u8], cell: Cell, out: &mut [u8]) -> Result<usize, Refusal> {
     let Cell { figure, column, row } = cell;
     let (room, out) = (out.len(), out.as_mut_ptr());
