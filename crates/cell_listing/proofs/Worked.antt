@@ -1,4 +1,4 @@
--- A worked case: sheet cell (examples/), g = 8. Tip 7 enters cell (1, 1) first; tips 3 and 4 enter it at time 8, over the border that it does not have and over the one that it has, and stand by id; then tip 1.
+-- A worked case: sheet cell (examples/), g = 8. Tip 7 enters cell (1, 1) first; tips 3 and 4 enter it at time 8, over the border that it does not have and over the one that it has, and stand by id; then tip 1. Tip 7 starts on the border of (1, 1) and (2, 1) and enters both at 0.
 use mathlib.Core.Path.{_≡_, refl}
 use mathlib.Core.List.{[], _∷_}
 use lib.IntN.{pos, negsuc}
@@ -39,3 +39,7 @@ sheet = record { tracks = four ∷ one ∷ seven ∷ three ∷ []; walls = befor
 pub as-they-enter : cellIds sheet 8 (cell 1 1) ≡ 7 ∷ 3 ∷ 4 ∷ 1 ∷ []
 unfolding cellIds cellTracks ahead insertBy insertAll passing hasPoint entryTime entry exit enter leave border before later sooner past side timeOf rollOf
 as-they-enter = refl
+
+pub both-at-the-start : cellIds sheet 8 (cell 2 1) ≡ 3 ∷ 7 ∷ []
+unfolding cellIds cellTracks ahead insertBy insertAll passing hasPoint entryTime entry exit enter leave border before later sooner past side timeOf rollOf
+both-at-the-start = refl
