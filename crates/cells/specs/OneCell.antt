@@ -1,5 +1,5 @@
--- Whether one named cell holds a point of a trace (SHEETS 6.3), as a test: the tip comes into its column and its row before it leaves one of them, and before its end.
--- Nobody need believe this file: `has-point-true` and `has-point-false` in proofs/Entry.antt tie the test to `HasPoint`.
+-- Whether one named cell holds a point of a trace (SHEETS 6.3), as a test, and when the trace enters it (SHEETS 6.4): the tip comes into its column and its row before it leaves one of them, and before its end.
+-- Nobody need believe this file: `has-point-true` and `has-point-false` in proofs/Entry.antt tie the test to `HasPoint`, `entry-time` the time to `EnteredAt`.
 use mathlib.Core.Bool.{Bool}
 use Prim.Native.Nat.{ℕ, suc, _*_, _-_, _≤_}
 use native.Mathlib.Decide.{decLe}
@@ -46,7 +46,7 @@ leave x (negsuc w) s c = border x (negsuc w) (c * s)
 unfoldable pub entry : Track → ℕ → Cell → Cut
 entry a s k = later (enter (a .x) (a .vx) s (k .column)) (enter (a .y) (a .vy) s (k .row))
 
--- the time of that cut (SHEETS 6.4): `entry-time` in proofs/Entry.antt
+-- the time of that cut (SHEETS 6.4)
 unfoldable pub entryTime : Track → ℕ → Cell → Time
 entryTime a s k = fraction (entry a s k .num) (entry a s k .den)
 

@@ -33,7 +33,7 @@ pub use text::line;
 pub use text::refusal;
 pub use text::still_running;
 
-// The stepping session, the partner's name or where it lies, the tracks of a cell.
+// The stepping session, the partner's name or where it lies, the tracks of a cell as they enter it.
 pub use cell_listing::cell_tracks;
 pub use cell_listing::cell_tracks_bytes;
 pub use names::partner_name;
