@@ -12,11 +12,11 @@ use Rattle.cell_walk.specs.declared.Arrival.{Arrival}
 use Rattle.cell_walk.specs.declared.Arrival.the-variants.{At, Never}
 
 -- the numbers of the entry's cut
-abbrev pub entryAt : Track → ℕ → Cell → Fraction
-entryAt a s k = record { num = entry a s k .num; den = entry a s k .den }
+abbrev pub entryFraction : Track → ℕ → Cell → Fraction
+entryFraction a s k = record { num = entry a s k .num; den = entry a s k .den }
 
 unfoldable pub arrivalOf : Track → Time → ℕ → Cell → Arrival
-arrivalOf a T s k = cond (hasPoint a T s k) (At (entryAt a s k)) Never
+arrivalOf a T s k = cond (hasPoint a T s k) (At (entryFraction a s k)) Never
 
 -- a time that is told can be compared
 abbrev pub Comparable : Arrival → Type 0
