@@ -17,7 +17,7 @@ use Rattle.cells.specs.Touched.{HasPoint}
 use Rattle.cells.proofs.Entry.{has-point-true, tested}
 use Rattle.cells.proofs.Passing.{passing-in, in-passing, passing-pairs}
 use Rattle.cell_listing.specs.CellIds.{CellIds, Precedes, ahead, cellTracks}
-use Rattle.cell_listing.proofs.EntryOrder.{Listed, Differ, by-entry, enters-before, not-both}
+use Rattle.cell_listing.proofs.EntryOrder.{LeavesBefore, Differ, by-entry, enters-before, not-both}
 
 module _ (T : ℕ → Time) (s : ℕ) (k : Cell) where
   abbrev pub Has : Track → Type 0
@@ -46,11 +46,11 @@ module _ (T : ℕ → Time) (s : ℕ) (k : Cell) where
       unfolding cellTracks
       listed-differ = perm-pairs Differ (λ a b f e. f (sym e)) (Permᴰ·symm (sort-perm (ahead s k) (passing test tracks))) passed-differ
 
-      pub listed-sorted : Pairwise (Listed s k) listed
+      pub listed-sorted : Pairwise (LeavesBefore s k) listed
       unfolding cellTracks
       listed-sorted = sort-sorted (by-entry s k) (passing test tracks) passed-differ
 
-      pub listed-only : (l : List Track) → Pairwise (Listed s k) l → ((a : Track) → a ∈ l → (a ∈ tracks) × Has a) → ((a : Track) → a ∈ tracks → Has a → a ∈ l) → listed ≡ l
+      pub listed-only : (l : List Track) → Pairwise (LeavesBefore s k) l → ((a : Track) → a ∈ l → (a ∈ tracks) × Has a) → ((a : Track) → a ∈ tracks → Has a → a ∈ l) → listed ≡ l
       unfolding cellTracks
       listed-only l r f g =
           sort-only (by-entry s k) (passing test tracks) l passed-differ r
@@ -62,8 +62,8 @@ module _ (T : ℕ → Time) (s : ℕ) (k : Cell) where
       abbrev ids : List ℕ
       ids = map (λ (a : Track). a .id) listed
 
-      abbrev Before : ℕ → ℕ → Type 0
-      Before = Precedes T tracks s k
+      abbrev InOrder : ℕ → ℕ → Type 0
+      InOrder = Precedes T tracks s k
 
       id-of : (i : ℕ) → i ∈ ids → (a : Track) × (a ∈ tracks) × (a .id ≡ i) × Has a
       id-of i m = let (a, n, e) = Memᴰ·of-map (λ (a : Track). a .id) listed m in let (o, h) = listed-in a n in (a, o, e, h)
@@ -71,17 +71,17 @@ module _ (T : ℕ → Time) (s : ℕ) (k : Cell) where
       of-id : (a : Track) → a ∈ tracks → Has a → a .id ∈ ids
       of-id a m h = Memᴰ·map (λ (a : Track). a .id) (in-listed a m h)
 
-      precedes : (a b : Track) → a ∈ listed → b ∈ listed → Listed s k a b → Before (a .id) (b .id)
+      precedes : (a b : Track) → a ∈ listed → b ∈ listed → LeavesBefore s k a b → InOrder (a .id) (b .id)
       precedes a b m n r =
           let (i, h) = listed-in a m in
           let (j, g) = listed-in b n in
           record { first = a; second = b; first-on = i; second-on = j; first-id = refl; second-id = refl; enters = enters-before h g r }
 
       -- exactly those, each once, in this order
-      pub the-ids : CellIds T tracks s k ids × Pairwise Before ids
+      pub the-ids : CellIds T tracks s k ids × Pairwise InOrder ids
       the-ids = (
         record { once = pairs-map (λ (a : Track). a .id) Differ (λ i j. ¬ (i ≡ j)) listed (λ a b m n f. f) listed-differ; each = id-of; all = of-id },
-        pairs-map (λ (a : Track). a .id) (Listed s k) Before listed precedes listed-sorted,
+        pairs-map (λ (a : Track). a .id) (LeavesBefore s k) InOrder listed precedes listed-sorted,
       )
 
       -- one track for one id
@@ -93,15 +93,15 @@ module _ (T : ℕ → Time) (s : ℕ) (k : Cell) where
           go (inr (inl f)) = absurd (f e)
           go (inr (inr f)) = absurd (f (sym e))
 
-      one-way : (i j : ℕ) → Before i j → ¬ Before j i
+      one-way : (i j : ℕ) → InOrder i j → ¬ InOrder j i
       one-way i j p q =
           let x = same-id (p .first) (q .second) (p .first-on) (q .second-on) (p .first-id ∙ sym (q .second-id)) in
           let y = same-id (p .second) (q .first) (p .second-on) (q .first-on) (p .second-id ∙ sym (q .first-id)) in
           not-both (p .enters) (rw (x, y) (q .enters))
 
-      pub no-other-ids : (l : List ℕ) → CellIds T tracks s k l → Pairwise Before l → l ≡ ids
+      pub no-other-ids : (l : List ℕ) → CellIds T tracks s k l → Pairwise InOrder l → l ≡ ids
       no-other-ids l h r =
-          sorted-same ℕ Before one-way l ids r (the-ids .1)
+          sorted-same ℕ InOrder one-way l ids r (the-ids .1)
           (λ i m. let (a, n, e, x) = h .each i m in subst (λ (z : ℕ). z ∈ ids) e (of-id a n x))
           (λ i m. let (a, n, e, x) = id-of i m in subst (λ (z : ℕ). z ∈ l) e (h .all a n x))
 
