@@ -9,7 +9,7 @@ use Rattle.byte_order.specs.Bytes.{leBytes}
 use Rattle.byte_order.proofs.Bytes.{le-length}
 use Rattle.sheet.specs.declared.Track.{Track}
 use Rattle.cell_listing.specs.Listed.{idWidth, idBytes}
-use Rattle.cell_listing.specs.Waiting.{Found}
+use Rattle.cell_listing.specs.Waiting.{IdsFound}
 
 pub bytes-length : (ids : List ℕ) → length (idBytes ids) ≡ idWidth * length ids
 unfolding idBytes
@@ -21,13 +21,13 @@ unfolding idBytes
 bytes-snoc [] i = append-nil (leBytes idWidth i)
 bytes-snoc (j ∷ ids) i = rw (bytes-snoc ids i, append-assoc)
 
-pub found-none : (found : List ℕ) → Found [] found 0
+pub found-none : (found : List ℕ) → IdsFound [] found 0
 unfolding idBytes
 found-none found = record { count = refl; few = omega arith; bytes = refl }
 
 pub found-more :
-    (l : List Track) (a : Track) {found after : List ℕ} {m : ℕ} → Found l found m → m < 256 → idWidth * m + idWidth ≤ length found → after ≡ sets found (idWidth * m) (leBytes idWidth (a .id))
-    → Found (l ++ (a ∷ [])) after (m + 1)
+    (l : List Track) (a : Track) {found after : List ℕ} {m : ℕ} → IdsFound l found m → m < 256 → idWidth * m + idWidth ≤ length found → after ≡ sets found (idWidth * m) (leBytes idWidth (a .id))
+    → IdsFound (l ++ (a ∷ [])) after (m + 1)
 found-more l a {found} {after} {m} h less room f =
     let v = leBytes idWidth (a .id) in
     let id : Track → ℕ = λ b. b .id in
