@@ -21,14 +21,14 @@ use Rattle.cell_listing.specs.Listed.{idWidth, idBytes, cell, cellCheck, listRe
 use Rattle.cell_listing.proofs.IdBytes.{bytes-length}
 use Rattle.cell_listing.proofs.Orders.{same-ids}
 use Rattle.cell_listing.proofs.TheIds.{the-ids, no-other-ids}
-use Rattle.promises.specs.CellView.{Call, call, View, Shown, CellView}
+use Rattle.promises.specs.CellView.{Call, call, CellList, Shown, CellView}
 use Rattle.promises.proofs.Runs.{given-accepted, given-records}
 
 module _ (l : List Command) (acc : Accepted (listing l)) where
   abbrev S : Listing
   S = listing l
 
-  view : (g : ℕ) (k : Cell) → View l (rollOf S) g k (cellIds S g k)
+  view : (g : ℕ) (k : Cell) → CellList l (rollOf S) g k (cellIds S g k)
   unfolding cellIds
   view g k =
       let (h, r) = the-ids (timeOf (rollOf S)) (side g) k (S .tracks) (acc .track-ids) in

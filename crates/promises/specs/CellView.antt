@@ -24,7 +24,7 @@ pub data Call (l : List Command) (g column row : ℕ) (before exit : List ℕ) :
   call : {v : Returned} {S : Listing} (r : Answer) → Given l v S → Lists v S g column row before exit r → Call l g column row before exit (answered r)
 
 -- what the view shows of a cell: the ids of the tracks with a point there, each once, as their traces enter it; no other list is that
-pub record View (l : List Command) (roll : List Row) (g : ℕ) (k : Cell) (ids : List ℕ) : Type 0 where
+pub record CellList (l : List Command) (roll : List Row) (g : ℕ) (k : Cell) (ids : List ℕ) : Type 0 where
   pub are : CellIds (timeOf roll) (tracksOf l) (side g) k ids
   pub sorted : Pairwise (Precedes (timeOf roll) (tracksOf l) (side g) k) ids
   pub no-other : (other : List ℕ) → CellIds (timeOf roll) (tracksOf l) (side g) k other → Pairwise (Precedes (timeOf roll) (tracksOf l) (side g) k) other → other ≡ ids
@@ -40,7 +40,7 @@ pub record CellView (l : List Command) : Type 0 where
   pub is-roll : RollOf (listing l) roll
   -- the list of each cell at each figure
   pub ids : ℕ → Cell → List ℕ
-  pub view : (g : ℕ) (k : Cell) → View l roll g k (ids g k)
+  pub view : (g : ℕ) (k : Cell) → CellList l roll g k (ids g k)
   -- a call shows it, in whatever order the sheet is given
   pub shown :
       {g column row : ℕ} {before exit : List ℕ} {x : Returned} → Call l g column row before exit x → Figure g → column < g → row < g
