@@ -7,7 +7,7 @@ use crate::table::{self, head, row};
 use reference::made_up::WHOLE;
 
 /// The stack that a listing may use.
-const STACK: usize = 1 << 20;
+const STACK: usize = 256 * 1024;
 
 fn cells(timed: &Timed, figure: u64, pair: &Pair) -> [String; 4] {
     let (_, ids) = timed.fullest(figure);
