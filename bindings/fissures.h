@@ -2,7 +2,7 @@
  *
  * A slice of bytes or numbers is passed as a pointer and a length, in bytes or in numbers. No pointer may be null, not even where the
  * length is 0. What a call may write (`session`, `out`, `second`, `cells`, `list`, `start`, `size`) may overlap neither what it reads nor
- * one another. No function keeps a pointer. No call takes more than 256 KB of stack.
+ * one another. No function keeps a pointer. No call takes more than 256 KB of stack (measured on x86-64).
  *
  * Each function but fissure_name returns 0 when the call is accepted, else the number of the refusal (FISSURE_... below), and stores the
  * other number of its answer in `second` (docs/SHEETS.md, 3.1 and 11). With a refusal that is:

@@ -1,5 +1,5 @@
 //! The proved library (crates/fissures_c) behind safe functions; examples/rust is a whole program over them. Only the calls here and the
-//! guard pages of `robust` are `unsafe` code. No call takes more than 256 KB of stack.
+//! guard pages of `robust` are `unsafe` code. No call takes more than 256 KB of stack (measured on x86-64).
 
 mod c;
 mod refusal;

@@ -50,7 +50,7 @@ ahead s k a b =
     let u = entryTime b s k in
     ltb (t .num * u .den) (u .num * t .den) || (eqb (t .num * u .den) (u .num * t .den) && ltb (a .id) (b .id))
 
--- of some tracks those with a point in the cell, as they are listed
+-- of some tracks those with a point in the cell, as they are listed (SHEETS 6.10)
 unfoldable pub cellTracks : (ℕ → Time) → ℕ → Cell → List Track → List Track
 cellTracks T s k tracks = sort (ahead s k) (passing (λ (a : Track). hasPoint a (T (a .id)) s k) tracks)
 

@@ -15,6 +15,7 @@ use Rattle.cell_walk.specs.declared.Arrival.the-variants.{At, Never}
 abbrev pub entryFraction : Track → ℕ → Cell → Fraction
 entryFraction a s k = record { num = entry a s k .num; den = entry a s k .den }
 
+-- when the trace of a up to T enters k, if it has a point there (SHEETS 6.3, 6.4)
 unfoldable pub arrivalOf : Track → Time → ℕ → Cell → Arrival
 arrivalOf a T s k = cond (hasPoint a T s k) (At (entryFraction a s k)) Never
 
@@ -23,7 +24,7 @@ abbrev pub Comparable : Arrival → Type 0
 Comparable (At t) = Timely t
 Comparable Never = Unit {0}
 
--- SHEETS 6.3, 6.4
+-- what the code tells, and that it can be compared
 pub record Arrives (a : Track) (T : Time) (s : ℕ) (k : Cell) (r : Arrival) : Type 0 where
   pub is : r ≡ arrivalOf a T s k
   pub comparable : Comparable r
