@@ -2,15 +2,30 @@
 use Prim.Native.Nat.{ℕ, _≤_, _<_}
 use Rattle.fraction.specs.declared.Fraction.{Fraction}
 
--- ---- contacts, as a sheet's coordinates and speeds give them, and rows
+-- ---- ages, as a sheet's coordinates and speeds give them
 
 -- 2 × 4095 × 4095: a determinant of differences of coordinates
 abbrev pub greatestPart : ℕ
 greatestPart = 33538050
 
-pub record Small (t : Fraction) : Type 0 where
+pub record Young (t : Fraction) : Type 0 where
   pub num-in : t .num ≤ greatestPart
   pub den-in : t .den ≤ greatestPart
+  pub den-pos : 0 < t .den
+
+-- ---- the times of rows: below 2 ^ 31 over below 2 ^ 19, so that two of them multiply to less than 2 ^ 50
+
+-- 2 × 63 × 4095: a determinant of a speed and a difference of coordinates
+abbrev pub greatestRowDen : ℕ
+greatestRowDen = 515970
+
+-- the greatest age, and a start time of 4095 over the greatest denominator
+abbrev pub greatestRowNum : ℕ
+greatestRowNum = 2146435200
+
+pub record Small (t : Fraction) : Type 0 where
+  pub num-in : t .num ≤ greatestRowNum
+  pub den-in : t .den ≤ greatestRowDen
   pub den-pos : 0 < t .den
 
 -- ---- every time that is compared

@@ -5,11 +5,10 @@ use mathlib.Core.Logic.{_⊎_, _≢_}
 use mathlib.Core.List.{List, [], _∷_, _++_}
 use Prim.Native.Nat.{ℕ, _+_, _≤_, _<_}
 use lib.ListN.{length}
-use Rattle.fraction.specs.Time.{Time, _≤ᵗ_, _<ᵗ_, _≈ᵗ_, zeroᵗ}
+use Rattle.fraction.specs.Time.{Time, _≤ᵗ_, _<ᵗ_, _≈ᵗ_}
 use Rattle.sheet.specs.declared.Track.{Track}
 use Rattle.sheet.specs.Listing.{Listing, _∈_}
 use Rattle.rule.specs.declared.Row.{Row}
-use Rattle.rule.specs.Motion.{Same}
 use Rattle.rule.specs.Rule.{Stops}
 use Rattle.rule.specs.Rows.{time, RuleRow}
 use Rattle.rule.specs.Contact.{when, hit, contact}
@@ -76,9 +75,9 @@ pub record Beats (done : List Row) (c : Cand) (a b : Track) : Type 0 where
 
 -- ---- the rows so far
 
--- no ended tip ran by the start of another: it ended there at the latest
+-- no ended tip ran by its contact with another, unless that one had ended before: it ended there at the latest
 pub record Honest (S : Listing) (done : List Row) : Type 0 where
-  pub honest : (d : Row) (b a : Track) (t : Time) → d ∈ done → d .id ≡ b .id → b ∈ S .tracks → a ∈ S .tracks → a .id ≢ b .id → Same b t a zeroᵗ → time d ≤ᵗ t
+  pub honest : (d : Row) (b a : Track) (t s : Time) → d ∈ done → d .id ≡ b .id → b ∈ S .tracks → a ∈ S .tracks → a .id ≢ b .id → contact b a ≡ hit t s → s ≤ᵗ upTo done t (a .id) → time d ≤ᵗ t
 
 -- `rows` have been written, in this order; `done` are the same, the newest first. Whatever comes out after them makes a run with them
 pub record Progress (S : Listing) (rows done : List Row) : Type 0 where
