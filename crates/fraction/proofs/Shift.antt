@@ -1,10 +1,11 @@
 -- Times moved by a whole number of units, n: later (`plusᵗ`) and earlier (`minusᵗ`). `plus-minus` and `minus-plus`: each takes back the other; both keep the order.
 use mathlib.Core.Path.{_≡_, refl}
-use Prim.Native.Nat.{ℕ, _+_, _*_, _-_, _≤_, _<_}
+use Prim.Native.Nat.{ℕ, suc, pred, _+_, _*_, _-_, _≤_, _<_, zero-le, suc-le-suc}
 use native.Mathlib.Nat.{le-of-mul-le-mul-left}
 use native.Mathlib.Decide.{decLe}
 use native.Mathlib.Omega.{arith}
-use Rattle.fraction.specs.Time.{Time, _≤ᵗ_, _<ᵗ_, _≈ᵗ_, fraction, plusᵗ, minusᵗ}
+use Rattle.fraction.specs.declared.Fraction.{Fraction}
+use Rattle.fraction.specs.Time.{Time, _≤ᵗ_, _<ᵗ_, _≈ᵗ_, fraction, asTime, plusᵗ, minusᵗ, laterBy, earlierBy}
 use Rattle.fraction.specs.Order.{≈ᵗ-of}
 use Rattle.fraction.proofs.TimeOrder.{≤ᵗ-trans, <ᵗ-≤ᵗ-trans, ≈ᵗ→≤ᵗ, ≈ᵗ-sym, <ᵗ-irrefl}
 
@@ -79,3 +80,25 @@ module _ (n : ℕ) where
 
   pub by-plus : {p t : Time} → fraction n 1 ≤ᵗ t → minusᵗ n t ≤ᵗ p → t ≤ᵗ plusᵗ n p
   by-plus h k = ≤ᵗ-trans (≈ᵗ→≤ᵗ (≈ᵗ-sym (plus-minus h))) (plus-le k)
+
+  -- ---- as the code has it
+
+  module _ (f : Fraction) (p : 0 < f .den) where
+    whole-den : suc (pred (f .den)) ≡ f .den
+    whole-den = omega arith
+
+    pub later-is : asTime (laterBy n f) ≡ plusᵗ n (asTime f)
+    unfolding plusᵗ
+    later-is =
+        let x : f .num + n * f .den ≡ f .num + n * suc (pred (f .den)) = rw whole-den refl in
+        λ i. record { num = x i; den = suc (pred (f .den)); den-pos = suc-le-suc zero-le }
+
+    pub earlier-is : asTime (earlierBy n f) ≡ minusᵗ n (asTime f)
+    unfolding minusᵗ
+    earlier-is =
+        let x : f .num - n * f .den ≡ f .num - n * suc (pred (f .den)) = rw whole-den refl in
+        λ i. record { num = x i; den = suc (pred (f .den)); den-pos = suc-le-suc zero-le }
+
+    -- it had opened by then, as the code tests it
+    pub opened-is : fraction n 1 ≤ᵗ asTime f → n * f .den ≤ f .num
+    opened-is h = let k = rw whole-den at (h .le) in omega arith

@@ -1,9 +1,9 @@
 // Exact arithmetic on fractions and signed numbers: the code. The laws for contracts and proofs are in proofs/.
 ghost use mathlib.Core.Path.{_≡_};
-ghost use Prim.Native.Nat.{_<_};
+ghost use Prim.Native.Nat.{_*_, _≤_, _<_};
 ghost use Rattle.fraction.specs.Lowest.{Greatest, Reduced, lowestOf};
-ghost use Rattle.fraction.specs.Sizes.{Timely};
-ghost use Rattle.fraction.specs.Time.{notLater};
+ghost use Rattle.fraction.specs.Sizes.{Young, Timely};
+ghost use Rattle.fraction.specs.Time.{notLater, laterBy, earlierBy};
 ghost use Rattle.fraction.specs.Sign.{signOf};
 
 // The time num / den.
@@ -52,6 +52,26 @@ pub fn not_later(a: Fraction, b: Fraction) -> bool
     ensures { λ r. ⌜ r ≡ notLater a b ⌝ }
 {
     a.num * b.den <= b.num * a.den
+}
+
+// The time at which a tip that opens at `start` is of this age (SHEETS 4.1).
+pub fn later(age: Fraction, start: u16) -> Fraction
+    requires { ⌜ Young age × (start ≤ 4095) ⌝ }
+    ensures { λ r. ⌜ (r ≡ laterBy start age) × Timely r ⌝ }
+{
+    let den = age.den;
+    let num = age.num + start as u64 * den;
+    Fraction { num, den }
+}
+
+// The age, at t, of a tip that opened at `start` (SHEETS 4.1).
+pub fn since(t: Fraction, start: u16) -> Fraction
+    requires { ⌜ Timely t × (start ≤ 4095) × (start * t .den ≤ t .num) ⌝ }
+    ensures { λ r. ⌜ r ≡ earlierBy start t ⌝ }
+{
+    let den = t.den;
+    let num = t.num - start as u64 * den;
+    Fraction { num, den }
 }
 
 // The sign of z, tested once; callers match on it.
