@@ -1,5 +1,5 @@
 -- Whether one named cell holds a point of a trace (SHEETS 6.3), as a test, and when the trace enters it (SHEETS 6.4): the tip comes into its column and its row before it leaves one of them, and before its end.
--- Nobody need believe this file: `has-point-true` and `has-point-false` in proofs/Entry.antt tie the test to `HasPoint`, `entry-time` the time to `EnteredAt`.
+-- Cuts are of a tip's ages. Nobody need believe this file: `has-point-true` and `has-point-false` in proofs/Aged.antt tie the test to `HasPoint`, `entry-time` the time to `EnteredAt`.
 use mathlib.Core.Bool.{Bool}
 use Prim.Native.Nat.{ℕ, suc, _*_, _-_, _≤_}
 use native.Mathlib.Decide.{decLe}
@@ -7,12 +7,13 @@ use native.Mathlib.Omega.{arith}
 use lib.IntN.{ℤ, pos, negsuc}
 use Rattle.fraction.specs.Time.{Time, fraction}
 use Rattle.sheet.specs.declared.Track.{Track}
+use Rattle.rule.specs.Motion.{age, clock}
 use Rattle.cells.specs.declared.Cell.{Cell}
 use Rattle.cells.specs.Cut.{Cut, before, later, sooner, past}
 
 -- ---- passing the border at b
 
--- every time is after this
+-- every age is after this
 unfoldable pub start : Cut
 start = record { num = 0; den = 1; late = 0; some = omega arith; late-bit = omega arith; late-den = omega arith }
 
@@ -24,7 +25,7 @@ unfoldable pub down : (x w b : ℕ) → Dec (b ≤ x) → Cut
 down x w b (yes h) = record { num = x - b; den = suc w; late = 1; some = omega arith; late-bit = omega arith; late-den = omega arith }
 down x w b (no h) = start
 
--- upwards: the times with the tip at b or above (at no speed: never, or always). Downwards: the times with the tip below b
+-- upwards: the ages with the tip at b or above (at no speed: never, or always). Downwards: the ages with the tip below b
 unfoldable pub border : ℕ → ℤ → ℕ → Cut
 unfolding up down start decLe
 border x (pos w) b = up x w b (decLe b x)
@@ -46,13 +47,20 @@ leave x (negsuc w) s c = border x (negsuc w) (c * s)
 unfoldable pub entry : Track → ℕ → Cell → Cut
 entry a s k = later (enter (a .x) (a .vx) s (k .column)) (enter (a .y) (a .vy) s (k .row))
 
--- the time of that cut (SHEETS 6.4)
+-- the age of that cut, and the time (SHEETS 6.4)
+unfoldable pub entryAge : Track → ℕ → Cell → Time
+entryAge a s k = fraction (entry a s k .num) (entry a s k .den)
+
 unfoldable pub entryTime : Track → ℕ → Cell → Time
-entryTime a s k = fraction (entry a s k .num) (entry a s k .den)
+entryTime a s k = clock a (entryAge a s k)
 
 unfoldable pub exit : Track → ℕ → Cell → Cut
 exit a s k = sooner (leave (a .x) (a .vx) s (k .column)) (leave (a .y) (a .vy) s (k .row))
 
--- the trace of a up to T has a point in k
-unfoldable pub hasPoint : Track → Time → ℕ → Cell → Bool
-hasPoint a T s k = before (entry a s k) (sooner (exit a s k) (past T))
+-- the trace of a up to the age P has a point in k
+unfoldable pub hasPointᵃ : Track → Time → ℕ → Cell → Bool
+hasPointᵃ a P s k = before (entry a s k) (sooner (exit a s k) (past P))
+
+-- up to the time T, which is not before it opens
+abbrev pub hasPoint : Track → Time → ℕ → Cell → Bool
+hasPoint a T s k = hasPointᵃ a (age a T) s k
