@@ -17,29 +17,29 @@ use Rattle.cells.specs.declared.Cell.{Cell}
 use Rattle.cells.specs.Grid.{Figure, side}
 use Rattle.cells.specs.Touched.{CellsOf, Counted}
 use Rattle.cells.specs.CellsEntered.{touchedBy, cellsEntered}
-use Rattle.cells.proofs.Aged.{age-cells}
+use Rattle.cells.proofs.Walk.{Stay}
 use Rattle.cells.proofs.Count as count
 use Rattle.cells.proofs.Total as total
 
 module _ {S : Listing} (acc : Accepted S) where
-  pub traced : (a : Track) → a ∈ S .tracks → total.Traced a (timeOf (rollOf S) (a .id))
-  traced a m = let o = roll-opened acc m in record { opened = o; stays = count.stay-rim acc m o (ends-by-rim acc m) }
+  pub stays : (a : Track) → a ∈ S .tracks → Stay a (timeOf (rollOf S) (a .id))
+  stays a m = count.stay-rim acc m (roll-opened acc m) (ends-by-rim acc m)
 
   module _ {g : ℕ} (f : Figure g) where
     pub is-counted : Counted (timeOf (rollOf S)) g (S .tracks) (cellsEntered S g)
     unfolding cellsEntered
-    is-counted = total.counts (timeOf (rollOf S)) g f (S .tracks) traced
+    is-counted = total.counts (timeOf (rollOf S)) g f (S .tracks) stays
 
     pub the-count : {n : ℕ} → Counted (timeOf (rollOf S)) g (S .tracks) n → n ≡ cellsEntered S g
     unfolding cellsEntered
-    the-count c = total.counted (timeOf (rollOf S)) g f traced c
+    the-count c = total.counted (timeOf (rollOf S)) g f stays c
 
     pub trace-few : (a : Track) → a ∈ S .tracks → (l : List Cell) → CellsOf a (timeOf (rollOf S) (a .id)) (side g) l → length l ≤ 2 * g - 1
-    trace-few a m l c = let w = traced a m in count.trace-few f (w .stays) (age-cells (w .opened) c)
+    trace-few a m l c = count.trace-few f (stays a m) c
 
     pub count-few : cellsEntered S g ≤ length (S .tracks) * (2 * g - 1)
     unfolding cellsEntered
-    count-few = total.count-few (timeOf (rollOf S)) g f (S .tracks) traced
+    count-few = total.count-few (timeOf (rollOf S)) g f (S .tracks) stays
 
   pub count-same : {S′ : Listing} (g : ℕ) → Reordered S S′ → cellsEntered S g ≡ cellsEntered S′ g
   unfolding cellsEntered

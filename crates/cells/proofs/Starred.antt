@@ -4,7 +4,6 @@ use mathlib.Core.Bool.{Bool}
 use mathlib.Core.List.{List}
 use Prim.Native.Nat.{ℕ}
 use lib.Dec.{T, eqb, eqb→eq}
-use Rattle.fraction.specs.Time.{minusᵗ}
 use Rattle.sheet.specs.Accepted.{Accepted}
 use Rattle.sheet.specs.Listing.{_∈_}
 use Rattle.rule.specs.declared.Row.{Row}
@@ -16,15 +15,15 @@ use Rattle.rule.proofs.Starred.{starred-accepted, starred-computed}
 use Rattle.rule.proofs.Late.{late-accepted, late-computed}
 use Rattle.cells.specs.Grid.{g8, side}
 use Rattle.cells.specs.Touched.{Counted}
-use Rattle.cells.specs.Cut.{before, later, sooner, past}
-use Rattle.cells.specs.OneCell.{border, enter, leave, entry, exit, hasPointᵃ}
+use Rattle.cells.specs.Cut.{before, later, sooner, plusᶜ, past}
+use Rattle.cells.specs.OneCell.{border, enter, leave, entryᵃ, exitᵃ, entry, exit, hasPoint}
 use Rattle.cells.specs.Passing.{passing}
 use Rattle.cells.specs.CellsEntered.{columnCells, gridCells, touched, touchedBy, cellsEntered}
 use Rattle.cells.proofs.CellsEntered.{is-counted}
 
 -- with the end times that the table has
 cells-ok : Starred → Bool
-unfolding touchedBy touched passing gridCells columnCells hasPointᵃ entry exit enter leave border before later sooner past side timeOf minusᵗ
+unfolding touchedBy touched passing gridCells columnCells hasPoint entry exit entryᵃ exitᵃ enter leave border before later sooner plusᶜ past side timeOf
 cells-ok e = eqb (touchedBy (timeOf (e .roll)) 8 (e .tracks)) (e .cells)
 
 table-ok : T (all cells-ok starred)

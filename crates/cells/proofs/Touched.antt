@@ -7,17 +7,17 @@ use Prim.Native.Nat.{ℕ, zero, suc, _<_}
 use native.Mathlib.Nat.{eq-or-lt-of-le}
 use native.Mathlib.Omega.{arith}
 use Rattle.fraction.specs.Time.{Time, _≤ᵗ_}
+use Rattle.fraction.proofs.Shift.{minus-le}
 use Rattle.sheet.specs.declared.Track.{Track}
 use Rattle.sheet.specs.Listing.{_∈_}
-use Rattle.rule.specs.Motion.{Insideᵃ, age}
+use Rattle.rule.specs.Motion.{opening, age, Inside}
 use Rattle.cells.specs.declared.Cell.{Cell}
 use Rattle.cells.specs.Grid.{Figure, side}
-use Rattle.cells.specs.Touched.{Distinct, none, one-more}
-use Rattle.cells.specs.Aged.{CellsOfᵃ}
+use Rattle.cells.specs.Touched.{Distinct, none, one-more, CellsOf}
 use Rattle.cells.specs.OneCell.{hasPoint}
 use Rattle.cells.specs.Passing.{passing}
 use Rattle.cells.specs.CellsEntered.{columnCells, gridCells, touched}
-use Rattle.cells.proofs.Entry.{has-pointᵃ-true, testedᵃ}
+use Rattle.cells.proofs.Entry.{has-point-true, tested}
 use Rattle.cells.proofs.Passing.{passing-in, in-passing}
 use Rattle.cells.proofs.Points.{in-grid}
 use Rattle.cells.proofs.Walk.{Stay}
@@ -94,15 +94,18 @@ grid-distinct (suc c) r = apart (column-distinct c r) (grid-distinct c r) (λ k 
 
 -- ---- the cells of a trace
 
-module _ (a : Track) (T : Time) (g : ℕ) (f : Figure g) (z : Stay a (age a T)) where
-  inside : (p : Time) → p ≤ᵗ age a T → Insideᵃ a p
-  inside p h = record { x-low = z .stay-x .low p h; x-high = z .stay-x .high p h; y-low = z .stay-y .low p h; y-high = z .stay-y .high p h }
+module _ (a : Track) (T : Time) (g : ℕ) (f : Figure g) (z : Stay a T) where
+  inside : (t : Time) → opening a ≤ᵗ t → t ≤ᵗ T → Inside a t
+  inside t o h =
+      let p = age a t in
+      let l = minus-le (a .start) h in
+      record { opened = o; inside = record { x-low = z .stay-x .low p l; x-high = z .stay-x .high p l; y-low = z .stay-y .low p l; y-high = z .stay-y .high p l } }
 
-  pub touched-of : CellsOfᵃ a (age a T) (side g) (touched a T g)
+  pub touched-of : CellsOf a T (side g) (touched a T g)
   unfolding touched
   touched-of =
       record {
         once = passing-distinct (hasPoint a T (side g)) (grid-distinct g g);
-        each = λ k i. has-pointᵃ-true (passing-in (hasPoint a T (side g)) (gridCells g g) i .1);
-        all = λ k h. let (c, r) = in-grid f (inside (h .when) (h .by-end)) (h .there) in in-passing (hasPoint a T (side g)) (gridCells g g) (grid-has k g g c r) (testedᵃ h);
+        each = λ k i. has-point-true (passing-in (hasPoint a T (side g)) (gridCells g g) i .1);
+        all = λ k h. let (c, r) = in-grid f (inside (h .when) (h .there .opened) (h .by-end)) (h .there) in in-passing (hasPoint a T (side g)) (gridCells g g) (grid-has k g g c r) (tested h);
       }

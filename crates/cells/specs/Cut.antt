@@ -30,6 +30,10 @@ later k l = cond (before k l) l k
 unfoldable pub sooner : Cut → Cut → Cut
 sooner k l = cond (before l k) l k
 
+-- n units later
+unfoldable pub plusᶜ : ℕ → Cut → Cut
+plusᶜ n k = record { num = k .num + n * k .den; den = k .den; late = k .late; some = omega (arith, k .some); late-bit = k .late-bit; late-den = k .late-den }
+
 -- just after a time: the times up to T are those before it
 unfoldable pub past : Time → Cut
 past t = record { num = t .num; den = t .den; late = 1; some = omega (arith, t .den-pos); late-bit = omega arith; late-den = omega (arith, t .den-pos) }

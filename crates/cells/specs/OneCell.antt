@@ -1,5 +1,5 @@
 -- Whether one named cell holds a point of a trace (SHEETS 6.3), as a test, and when the trace enters it (SHEETS 6.4): the tip comes into its column and its row before it leaves one of them, and before its end.
--- Cuts are of a tip's ages. Nobody need believe this file: `has-point-true` and `has-point-false` in proofs/Aged.antt tie the test to `HasPoint`, `entry-time` the time to `EnteredAt`.
+-- Cuts of a tip's ages become cuts of the sheet's times where a cell comes in. Nobody need believe this file: `has-point-true` and `has-point-false` in proofs/Entry.antt tie the test to `HasPoint`, `entry-time` the time to `EnteredAt`.
 use mathlib.Core.Bool.{Bool}
 use Prim.Native.Nat.{ℕ, suc, _*_, _-_, _≤_}
 use native.Mathlib.Decide.{decLe}
@@ -7,9 +7,8 @@ use native.Mathlib.Omega.{arith}
 use lib.IntN.{ℤ, pos, negsuc}
 use Rattle.fraction.specs.Time.{Time, fraction}
 use Rattle.sheet.specs.declared.Track.{Track}
-use Rattle.rule.specs.Motion.{age, clock}
 use Rattle.cells.specs.declared.Cell.{Cell}
-use Rattle.cells.specs.Cut.{Cut, before, later, sooner, past}
+use Rattle.cells.specs.Cut.{Cut, before, later, sooner, plusᶜ, past}
 
 -- ---- passing the border at b
 
@@ -41,26 +40,27 @@ unfoldable pub leave : ℕ → ℤ → ℕ → ℕ → Cut
 leave x (pos w) s c = border x (pos w) (suc c * s)
 leave x (negsuc w) s c = border x (negsuc w) (c * s)
 
--- ---- a cell
+-- ---- a cell, by age
 
 -- from where on the tip is, or has been, in the column and in the row
+unfoldable pub entryᵃ : Track → ℕ → Cell → Cut
+entryᵃ a s k = later (enter (a .x) (a .vx) s (k .column)) (enter (a .y) (a .vy) s (k .row))
+
+unfoldable pub exitᵃ : Track → ℕ → Cell → Cut
+exitᵃ a s k = sooner (leave (a .x) (a .vx) s (k .column)) (leave (a .y) (a .vy) s (k .row))
+
+-- ---- a cell, by the times of the sheet
+
 unfoldable pub entry : Track → ℕ → Cell → Cut
-entry a s k = later (enter (a .x) (a .vx) s (k .column)) (enter (a .y) (a .vy) s (k .row))
-
--- the age of that cut, and the time (SHEETS 6.4)
-unfoldable pub entryAge : Track → ℕ → Cell → Time
-entryAge a s k = fraction (entry a s k .num) (entry a s k .den)
-
-unfoldable pub entryTime : Track → ℕ → Cell → Time
-entryTime a s k = clock a (entryAge a s k)
+entry a s k = plusᶜ (a .start) (entryᵃ a s k)
 
 unfoldable pub exit : Track → ℕ → Cell → Cut
-exit a s k = sooner (leave (a .x) (a .vx) s (k .column)) (leave (a .y) (a .vy) s (k .row))
+exit a s k = plusᶜ (a .start) (exitᵃ a s k)
 
--- the trace of a up to the age P has a point in k
-unfoldable pub hasPointᵃ : Track → Time → ℕ → Cell → Bool
-hasPointᵃ a P s k = before (entry a s k) (sooner (exit a s k) (past P))
+-- the time of that cut (SHEETS 6.4)
+unfoldable pub entryTime : Track → ℕ → Cell → Time
+entryTime a s k = fraction (entry a s k .num) (entry a s k .den)
 
--- up to the time T, which is not before it opens
-abbrev pub hasPoint : Track → Time → ℕ → Cell → Bool
-hasPoint a T s k = hasPointᵃ a (age a T) s k
+-- the trace of a up to T has a point in k
+unfoldable pub hasPoint : Track → Time → ℕ → Cell → Bool
+hasPoint a T s k = before (entry a s k) (sooner (exit a s k) (past T))
