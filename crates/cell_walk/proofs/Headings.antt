@@ -10,7 +10,7 @@ use Rattle.cells.specs.Walk.{step}
 use Rattle.cell_walk.specs.declared.Onset.{Onset}
 use Rattle.cell_walk.specs.declared.Heading.{Heading}
 use Rattle.cell_walk.specs.declared.Heading.the-variants.{Up, Down}
-use Rattle.cell_walk.specs.Onsets.{onsetOf, Gives, fall, speedOf, Falls, Headed}
+use Rattle.cell_walk.specs.Onsets.{onsetOf, GivesEarly, fall, speedOf, Falls, Headed}
 
 pub heading-none : (z : ℤ) → Zero ≡ signOf z → Headed z (Up 0)
 heading-none (pos zero) e = record { is = refl; short = omega arith }
@@ -42,25 +42,25 @@ module _ {v : ℤ} {h : Heading} (g : Headed v h) {w : ℕ} where
   down-is : h ≡ Down w → v ≡ fall w
   down-is e = g .is ∙ ap speedOf e
 
-  pub enter-up : (x s c : ℕ) {r : Onset} → h ≡ Up w → Gives (onsetOf (border x (pos w) (c * s))) r → Gives (onsetOf (enter x v s c)) r
+  pub enter-up : (x s c : ℕ) {r : Onset} → h ≡ Up w → GivesEarly (onsetOf (border x (pos w) (c * s))) r → GivesEarly (onsetOf (enter x v s c)) r
   unfolding enter
-  enter-up x s c {r} e k = subst (λ (z : ℤ). Gives (onsetOf (enter x z s c)) r) (sym (up-is e)) k
+  enter-up x s c {r} e k = subst (λ (z : ℤ). GivesEarly (onsetOf (enter x z s c)) r) (sym (up-is e)) k
 
-  pub enter-down : (x s c : ℕ) {r : Onset} → h ≡ Down w → Gives (onsetOf (border x (fall w) ((c + 1) * s))) r → Gives (onsetOf (enter x v s c)) r
+  pub enter-down : (x s c : ℕ) {r : Onset} → h ≡ Down w → GivesEarly (onsetOf (border x (fall w) ((c + 1) * s))) r → GivesEarly (onsetOf (enter x v s c)) r
   unfolding enter
   enter-down x s c {r} e k =
-      subst (λ (z : ℤ). Gives (onsetOf (enter x z s c)) r) (sym (down-is e))
-      (subst (λ (b : ℕ). Gives (onsetOf (border x (fall w) b)) r) (omega arith) k)
+      subst (λ (z : ℤ). GivesEarly (onsetOf (enter x z s c)) r) (sym (down-is e))
+      (subst (λ (b : ℕ). GivesEarly (onsetOf (border x (fall w) b)) r) (omega arith) k)
 
-  pub leave-up : (x s c : ℕ) {r : Onset} → h ≡ Up w → Gives (onsetOf (border x (pos w) ((c + 1) * s))) r → Gives (onsetOf (leave x v s c)) r
+  pub leave-up : (x s c : ℕ) {r : Onset} → h ≡ Up w → GivesEarly (onsetOf (border x (pos w) ((c + 1) * s))) r → GivesEarly (onsetOf (leave x v s c)) r
   unfolding leave
   leave-up x s c {r} e k =
-      subst (λ (z : ℤ). Gives (onsetOf (leave x z s c)) r) (sym (up-is e))
-      (subst (λ (b : ℕ). Gives (onsetOf (border x (pos w) b)) r) (omega arith) k)
+      subst (λ (z : ℤ). GivesEarly (onsetOf (leave x z s c)) r) (sym (up-is e))
+      (subst (λ (b : ℕ). GivesEarly (onsetOf (border x (pos w) b)) r) (omega arith) k)
 
-  pub leave-down : (x s c : ℕ) {r : Onset} → h ≡ Down w → Gives (onsetOf (border x (fall w) (c * s))) r → Gives (onsetOf (leave x v s c)) r
+  pub leave-down : (x s c : ℕ) {r : Onset} → h ≡ Down w → GivesEarly (onsetOf (border x (fall w) (c * s))) r → GivesEarly (onsetOf (leave x v s c)) r
   unfolding leave
-  leave-down x s c {r} e k = subst (λ (z : ℤ). Gives (onsetOf (leave x z s c)) r) (sym (down-is e)) k
+  leave-down x s c {r} e k = subst (λ (z : ℤ). GivesEarly (onsetOf (leave x z s c)) r) (sym (down-is e)) k
 
   pub onward-up : (c : ℕ) → h ≡ Up w → c + 1 ≡ step v c
   unfolding step

@@ -5,7 +5,8 @@ use Prim.Native.Nat.{ℕ, pred, _+_, _*_, _≤_, _<_}
 use lib.Dec.{ltb}
 use lib.IntN.{ℤ, pos, negsuc}
 use Rattle.fraction.specs.declared.Fraction.{Fraction}
-use Rattle.fraction.specs.Sizes.{greatestNum, greatestDen}
+use Rattle.fraction.specs.Sizes.{greatestPart, greatestNum, greatestDen}
+use Rattle.fraction.specs.Time.{laterBy}
 use Rattle.sheet.specs.declared.Track.{Track}
 use Rattle.cells.specs.declared.Cell.{Cell}
 use Rattle.cells.specs.Cut.{Cut}
@@ -28,9 +29,23 @@ pub record Ready (k : Onset) : Type 0 where
   pub den-in : k .at .den ≤ greatestDen
   pub late-in : k .late ≤ 1
 
+-- small enough to be shifted: an onset by the ages of a tip
+pub record Early (k : Onset) : Type 0 where
+  pub num-in : k .at .num ≤ greatestPart
+  pub den-in : k .at .den ≤ greatestPart
+  pub late-in : k .late ≤ 1
+
 pub record Gives (k r : Onset) : Type 0 where
   pub is : r ≡ k
   pub ready : Ready r
+
+pub record GivesEarly (k r : Onset) : Type 0 where
+  pub is : r ≡ k
+  pub early : Early r
+
+-- as one by the sheet's times, where the tip opens at n (SHEETS 4.1)
+abbrev pub openedOf : ℕ → Onset → Onset
+openedOf n k = onset (laterBy n (k .at)) (k .late)
 
 -- the order of onsets, the later and the sooner of two
 unfoldable pub priorOf : Onset → Onset → Bool

@@ -7,14 +7,14 @@ ghost use Rattle.fraction.specs.Sizes.{greatestNum, greatestDen, Timely};
 ghost use Rattle.sheet.specs.Accepted.{TrackOk};
 ghost use Rattle.cells.specs.OneCell.{border, enter, leave, entry, exit};
 ghost use Rattle.cells.specs.Walk.{step, first};
-ghost use Rattle.cell_walk.specs.Onsets.{Ready, Gives, Crosses, Headed, Near, priorOf, laterOf, soonerOf, turnOf, onsetOf, fall, crossOf};
+ghost use Rattle.cell_walk.specs.Onsets.{Ready, Early, Gives, GivesEarly, Crosses, Headed, Near, priorOf, laterOf, soonerOf, openedOf, turnOf, onsetOf, fall, crossOf};
 ghost use Rattle.cell_walk.specs.Arrivals.{Arrives};
 use cells::Cell;
 use fraction::Fraction;
 use fraction::Sign;
 use sheet::Track;
 
-// The time at which a part of time begins: with that time itself (late is 0), or just after it (late is 1). 1 / 0 is never.
+// The time at which a part of time begins: with that time itself (late is 0), or just after it (late is 1). 1 / 0 is never. Within this file also of a tip's ages.
 pub struct Onset {
     pub at: Fraction,
     pub late: u64,
@@ -66,22 +66,32 @@ pub fn prior(k: Onset, l: Onset) -> bool
 
 fn later(k: Onset, l: Onset) -> Onset
     requires { ⌜ Ready k × Ready l ⌝ }
-    ensures { λ r. ⌜ Gives (laterOf k l) r ⌝ }
+    ensures { λ r. ⌜ r ≡ laterOf k l ⌝ }
 {
     if prior(k, l) { l } else { k }
 }
 
 fn sooner(k: Onset, l: Onset) -> Onset
     requires { ⌜ Ready k × Ready l ⌝ }
-    ensures { λ r. ⌜ Gives (soonerOf k l) r ⌝ }
+    ensures { λ r. ⌜ r ≡ soonerOf k l ⌝ }
 {
     if prior(l, k) { l } else { k }
+}
+
+// An onset by the ages of a tip that opens at `start`, as one by the sheet's times (SHEETS 4.1).
+fn opened(k: Onset, start: u16) -> Onset
+    requires { ⌜ Early k × (start ≤ 4095) ⌝ }
+    ensures { λ r. ⌜ Gives (openedOf start k) r ⌝ }
+{
+    let late = k.late;
+    let at = fraction::later(k.at, start);
+    Onset { at, late }
 }
 
 // The border at b, by a tip that starts at x and goes up at w.
 fn rising(x: u64, w: u64, b: u64) -> Onset
     requires { ⌜ (x ≤ 4095) × (w ≤ 63) × (b ≤ 21000000) ⌝ }
-    ensures { λ r. ⌜ Gives (onsetOf (border x (pos w) b)) r ⌝ }
+    ensures { λ r. ⌜ GivesEarly (onsetOf (border x (pos w) b)) r ⌝ }
 {
     if b <= x {
         return Onset {
@@ -98,7 +108,7 @@ fn rising(x: u64, w: u64, b: u64) -> Onset
 // The same of a tip that goes down at w: it is past the border only below it.
 fn falling(x: u64, w: u64, b: u64) -> Onset
     requires { ⌜ (x ≤ 4095) × (0 < w) × (w ≤ 63) × (b ≤ 21000000) ⌝ }
-    ensures { λ r. ⌜ Gives (onsetOf (border x (fall w) b)) r ⌝ }
+    ensures { λ r. ⌜ GivesEarly (onsetOf (border x (fall w) b)) r ⌝ }
 {
     if b <= x {
         return Onset {
@@ -112,10 +122,10 @@ fn falling(x: u64, w: u64, b: u64) -> Onset
     }
 }
 
-// When a tip with this start and speed enters column `col` of side s, and when it leaves it.
+// The age at which a tip with this start and speed enters column `col` of side s, and at which it leaves it.
 fn column_entry(x: u16, v: i8, s: u64, col: u64) -> Onset
     requires { ⌜ (x ≤ 4095) × (natAbs v ≤ 63) × (s ≤ 4096) × (col ≤ 5000) ⌝ }
-    ensures { λ r. ⌜ Gives (onsetOf (enter x v s col)) r ⌝ }
+    ensures { λ r. ⌜ GivesEarly (onsetOf (enter x v s col)) r ⌝ }
 {
     match heading_of(v) {
         Heading::Up(w) => rising(x as u64, w, col * s),
@@ -125,7 +135,7 @@ fn column_entry(x: u16, v: i8, s: u64, col: u64) -> Onset
 
 fn column_exit(x: u16, v: i8, s: u64, col: u64) -> Onset
     requires { ⌜ (x ≤ 4095) × (natAbs v ≤ 63) × (s ≤ 4096) × (col ≤ 5000) ⌝ }
-    ensures { λ r. ⌜ Gives (onsetOf (leave x v s col)) r ⌝ }
+    ensures { λ r. ⌜ GivesEarly (onsetOf (leave x v s col)) r ⌝ }
 {
     match heading_of(v) {
         Heading::Up(w) => rising(x as u64, w, (col + 1) * s),
@@ -138,10 +148,11 @@ fn cell_entry(a: Track, s: u64, k: Cell) -> Onset
     requires { ⌜ TrackOk a × (s ≤ 4096) × Near k ⌝ }
     ensures { λ r. ⌜ Gives (onsetOf (entry a s k)) r ⌝ }
 {
-    later(
+    let by_age = later(
         column_entry(a.x, a.vx, s, k.column),
         column_entry(a.y, a.vy, s, k.row),
-    )
+    );
+    opened(by_age, a.start)
 }
 
 // From when on it has left the cell.
@@ -149,10 +160,11 @@ fn cell_exit(a: Track, s: u64, k: Cell) -> Onset
     requires { ⌜ TrackOk a × (s ≤ 4096) × Near k ⌝ }
     ensures { λ r. ⌜ Gives (onsetOf (exit a s k)) r ⌝ }
 {
-    sooner(
+    let by_age = sooner(
         column_exit(a.x, a.vx, s, k.column),
         column_exit(a.y, a.vy, s, k.row),
-    )
+    );
+    opened(by_age, a.start)
 }
 
 // When the trace up to `end` enters the cell (SHEETS 6.4). It has a point there if the cell is entered before it is left and before the trace's end.
@@ -180,10 +192,10 @@ fn onward(v: i8, col: u64) -> u64
     }
 }
 
-// Over the border that is reached first, or over both.
+// Over the border that is reached first, or over both, by age.
 fn turned(lx: Onset, ly: Onset, vx: i8, vy: i8, k: Cell) -> Crossing
     requires { ⌜ Ready lx × Ready ly × (natAbs vx ≤ 63) × (natAbs vy ≤ 63) × Near k ⌝ }
-    ensures { λ r. ⌜ Crosses (turnOf lx ly vx vy k) r ⌝ }
+    ensures { λ r. ⌜ r ≡ turnOf lx ly vx vy k ⌝ }
 {
     let column = onward(vx, k.column);
     let row = onward(vy, k.row);
@@ -215,7 +227,10 @@ pub fn next_entry(a: Track, s: u64, k: Cell) -> Crossing
 {
     let lx = column_exit(a.x, a.vx, s, k.column);
     let ly = column_exit(a.y, a.vy, s, k.row);
-    turned(lx, ly, a.vx, a.vy, k)
+    let next = turned(lx, ly, a.vx, a.vy, k);
+    let cell = next.cell;
+    let when = opened(next.when, a.start);
+    Crossing { when, cell }
 }
 
 // The cell of the start.

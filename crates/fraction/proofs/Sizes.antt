@@ -7,7 +7,7 @@ use mir.Syntax.{w64}
 use mir.Val.{Fits, bits}
 use Rattle.fraction.specs.declared.Fraction.{Fraction}
 use Rattle.fraction.specs.Lowest.{lowestOf}
-use Rattle.fraction.specs.Sizes.{Young, Small, Timely}
+use Rattle.fraction.specs.Sizes.{greatestPart, greatestNum, Young, Small, Timely}
 use Rattle.fraction.specs.Time.{laterBy}
 use Rattle.fraction.proofs.LowestTerms.{lowestOf-num, lowestOf-den, lowestOf-reduced}
 
@@ -18,11 +18,14 @@ pub young-timely : {t : Fraction} → Young t → Timely t
 young-timely h = record { num-in = omega (arith, h .num-in); den-in = omega (arith, h .den-in); den-pos = h .den-pos }
 
 -- a start time is at most 4095
-pub later-timely : {t : Fraction} {n : ℕ} → Young t → n ≤ 4095 → Timely (laterBy n t)
-later-timely {t} {n} h k = let x = mul-le-mul k (h .den-in) in record { num-in = omega (arith, x, h .num-in); den-in = omega (arith, h .den-in); den-pos = h .den-pos }
+pub later-in : (m d n : ℕ) → m ≤ greatestPart → d ≤ greatestPart → n ≤ 4095 → m + n * d ≤ greatestNum
+later-in m d n h i k = omega (arith, mul-le-mul k i)
 
-pub timely-fits : {t : Fraction} → Timely t → Fits w64 (t .num)
-timely-fits h = record { fits = omega (arith, h .num-in, ltb→lt 274877906943 (2 ^ bits w64) tt) }
+pub later-timely : {t : Fraction} (n : ℕ) → Young t → n ≤ 4095 → Timely (laterBy n t)
+later-timely {t} n h k = record { num-in = later-in (t .num) (t .den) n (h .num-in) (h .den-in) k; den-in = omega (arith, h .den-in); den-pos = h .den-pos }
+
+pub later-fits : (m d n : ℕ) → m ≤ greatestPart → d ≤ greatestPart → n ≤ 4095 → Fits w64 (m + n * d)
+later-fits m d n h i k = record { fits = omega (arith, later-in m d n h i k, ltb→lt greatestNum (2 ^ bits w64) tt) }
 
 pub lowest-timely : {n d : ℕ} → Timely (record { num = n; den = d }) → Timely (lowestOf n d)
 lowest-timely {n} {d} h =

@@ -1,6 +1,7 @@
 -- Entered before it is left and before the trace's end, or never.
 use borrow.Author.Needs.{needs}
-use Rattle.cell_walk.proofs.Onsets.{arrives, never}
+use Rattle.cell_walk.specs.Onsets.{Ready}
+use Rattle.cell_walk.proofs.Onsets.{past-ready, sooner-has, arrives, never}
 use Rattle.cell_walk.proofs.arrives.Statement.{statement}
 use Rattle.cell_walk.proofs.arrives.Tie as tie
 
@@ -14,7 +15,7 @@ sooner-requires : tie.Need-sooner-requires
 sooner-requires c κs = search needs
 
 prior-requires : tie.Need-prior-requires
-prior-requires c κs = search needs
+prior-requires c κs = (c .before .before .cell-entry .ensures .ready, sooner-has Ready (c .before .cell-exit .ensures .ready) (past-ready (c .before .before .before .pre .1)) (c .sooner .ensures))
 
 returns : tie.Need-returns
 returns c =

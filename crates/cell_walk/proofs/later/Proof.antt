@@ -1,6 +1,6 @@
 -- `later` meets its contract.
-use mathlib.Core.Path.{sym, _∙_}
-use Rattle.cell_walk.proofs.Onsets.{later-yes, later-no}
+use mathlib.Core.Path.{refl, sym, _∙_}
+use Rattle.cell_walk.specs.Onsets.{laterOf}
 use borrow.Author.Needs.{needs}
 use Rattle.cell_walk.proofs.later.Statement.{statement}
 use Rattle.cell_walk.proofs.later.Tie as tie
@@ -9,10 +9,12 @@ prior-requires : tie.Need-prior-requires
 prior-requires c κs = search needs
 
 returns : tie.Need-returns
-returns c = later-yes (c .before .before .args .k) (c .before .before .args .l) (sym (c .before .prior .ensures) ∙ c .if1 .taken) (c .before .before .pre .1)
+unfolding laterOf
+returns c = let e = sym (c .before .prior .ensures) ∙ c .if1 .taken in rw e refl
 
 returns-2 : tie.Need-returns-2
-returns-2 c = later-no (c .before .before .args .k) (c .before .before .args .l) (sym (c .before .prior .ensures) ∙ c .if1 .left) (c .before .before .pre .0)
+unfolding laterOf
+returns-2 c = let e = sym (c .before .prior .ensures) ∙ c .if1 .left in rw e refl
 
 pub later-spec : {M : Type 1} → statement M
 later-spec = tie.close (tie.spec prior-requires returns returns-2)
