@@ -1,4 +1,4 @@
--- A tip that is on a wall in a part of the sheet is on a wall that is near it. Main theorem: `near-on`.
+-- A tip that is on a wall in a part of the sheet is on a wall that is near it. Main theorem: `near-on`, by the age t.
 use mathlib.Core.Logic.{_⊎_, inl, inr}
 use Prim.Native.Nat.{ℕ, _+_, _*_, _≤_, _<_}
 use native.Mathlib.Decide.{decLt, decLe}
@@ -6,7 +6,7 @@ use native.Mathlib.Nat.{mul-le-mul-left, mul-le-mul-right, mul-lt-mul-of-pos-rig
 use native.Mathlib.Omega.{arith}
 use Rattle.fraction.specs.Time.{Time}
 use Rattle.fraction.specs.Whole.{Whole, nat, _≈_, _⊑_, _⊏_, _·_}
-use Rattle.rule.specs.Motion.{X, Y, OnWall}
+use Rattle.rule.specs.Motion.{Xᵃ, Yᵃ, OnWallᵃ}
 use Rattle.sheet.specs.declared.Track.{Track}
 use Rattle.sheet.specs.declared.Wall.{Wall}
 use Rattle.cause.specs.declared.Region.{Region}
@@ -42,9 +42,9 @@ module _ (P : Whole) (a b d n f : ℕ) (running : 0 < d) (some : 0 < n + f) (on 
       go′ (no p) (yes q) = inr q
       go′ (no p) (no q) = absurd (below low g (omega arith) (omega arith))
 
-pub near-on : (p : Region) {a : Track} {t : Time} {w : Wall} → OnWall a t w → nat (p .left * t .den) ⊑ X a t → X a t ⊏ nat (p .right * t .den) → nat (p .low * t .den) ⊑ Y a t → Y a t ⊏ nat (p .high * t .den) → Near p w
+pub near-on : (p : Region) {a : Track} {t : Time} {w : Wall} → OnWallᵃ a t w → nat (p .left * t .den) ⊑ Xᵃ a t → Xᵃ a t ⊏ nat (p .right * t .den) → nat (p .low * t .den) ⊑ Yᵃ a t → Yᵃ a t ⊏ nat (p .high * t .den) → Near p w
 near-on p {a} {t} {w} o left right low high =
     record {
-      across = reach (X a t) (w .ax) (w .bx) (t .den) (o .near) (o .far) (t .den-pos) (o .some) (o .on-x) (p .left) (p .right) left right;
-      along = reach (Y a t) (w .ay) (w .by) (t .den) (o .near) (o .far) (t .den-pos) (o .some) (o .on-y) (p .low) (p .high) low high;
+      across = reach (Xᵃ a t) (w .ax) (w .bx) (t .den) (o .near) (o .far) (t .den-pos) (o .some) (o .on-x) (p .left) (p .right) left right;
+      along = reach (Yᵃ a t) (w .ay) (w .by) (t .den) (o .near) (o .far) (t .den-pos) (o .some) (o .on-y) (p .low) (p .high) low high;
     }
