@@ -33,8 +33,9 @@ struct Times {
 }
 
 impl Times {
-    fn up_to(end: Fraction) -> Self {
-        Times { from: Fraction::ZERO, takes_in_from: true, to: end, takes_in_to: true }
+    /// Those of a trace: it has no point before its start time (SHEETS 4.2).
+    fn of_trace(track: &Track, end: Fraction) -> Self {
+        Times { from: Fraction::whole(track.start_time), takes_in_from: true, to: end, takes_in_to: true }
     }
 
     fn not_before(self, from: Fraction) -> Self {
@@ -73,30 +74,50 @@ impl Times {
         self.from > self.to || self.from == self.to && !(self.takes_in_from && self.takes_in_to)
     }
 
-    /// Those of the times at which low ≤ start + speed × t < high, if there are any.
-    fn within(self, start: u16, speed: i8, low: u64, high: u64) -> Option<Times> {
-        let reaches = |line: u64| {
-            let way = i128::from(line) - i128::from(start);
-            Fraction::new(way, speed)
-        };
-        let kept = match speed.signum() {
-            1 => self.not_before(reaches(low)).before(reaches(high)),
-            -1 => self.after(reaches(high)).not_after(reaches(low)),
-            _ if (low..high).contains(&start.into()) => self,
+    /// Those of the times at which a tip is from `low` on and below `high` in one coordinate, if there are any.
+    fn within(self, tip: Along, low: u64, high: u64) -> Option<Times> {
+        let kept = match tip.speed.signum() {
+            1 => self.not_before(tip.reaches(low)).before(tip.reaches(high)),
+            -1 => self.after(tip.reaches(high)).not_after(tip.reaches(low)),
+            _ if (low..high).contains(&tip.start.into()) => self,
             _ => return None,
         };
         (!kept.is_empty()).then_some(kept)
     }
 }
 
+/// A tip in one of its coordinates.
+#[derive(Clone, Copy)]
+struct Along {
+    start: u16,
+    speed: i8,
+    start_time: u16,
+}
+
+impl Along {
+    fn x(track: &Track) -> Self {
+        Along { start: track.x, speed: track.vx, start_time: track.start_time }
+    }
+
+    fn y(track: &Track) -> Self {
+        Along { start: track.y, speed: track.vy, start_time: track.start_time }
+    }
+
+    /// When a tip that moves in this coordinate is at the line, be it before its start.
+    fn reaches(self, line: u64) -> Fraction {
+        let way = i128::from(line) - i128::from(self.start);
+        Fraction::whole(self.start_time) + Fraction::new(way, self.speed)
+    }
+}
+
 /// The times up to `end` at which the tip is in the column.
 fn times_in_column(track: &Track, end: Fraction, side: u64, column: u64) -> Option<Times> {
-    Times::up_to(end).within(track.x, track.vx, column * side, (column + 1) * side)
+    Times::of_trace(track, end).within(Along::x(track), column * side, (column + 1) * side)
 }
 
 /// Those of the times at which the tip is in the row as well.
 fn also_in_row(times: Times, track: &Track, side: u64, row: u64) -> Option<Times> {
-    times.within(track.y, track.vy, row * side, (row + 1) * side)
+    times.within(Along::y(track), row * side, (row + 1) * side)
 }
 
 /// When the trace, which goes to `end`, enters the cell, if it has a point there (SHEETS 6.4). The

@@ -3,7 +3,8 @@
 //!
 //! - Kind 0: a sheet's bytes.
 //! - Kind 1, records handed in: the numbers of tracks and of walls (64 bits each), how many tracks
-//!   are listed (16), the operands of the listed tracks, those of the listed walls.
+//!   are listed (16), the listed tracks as operands of 03 (10 bytes each, the start time last, be it
+//!   0), the operands of the listed walls (10 bytes each).
 //! - Kind 2, a lookup: the kind of ending (8 bits), the partner's id (16), the length of the track
 //!   list (16), the track list, the wall list.
 
@@ -50,7 +51,7 @@ fn records_bytes(handed_in: &HandedIn) -> Vec<u8> {
     let HandedIn { ntracks, nwalls, listed } = handed_in;
     let mut bytes = [ntracks.to_le_bytes(), nwalls.to_le_bytes()].concat();
     bytes.extend((listed.tracks.len() as u16).to_le_bytes());
-    bytes.extend(listed.tracks.iter().flat_map(|track| track.to_bytes().into_iter().skip(1)));
+    bytes.extend(listed.tracks.iter().flat_map(|track| track.operands()));
     bytes.extend(listed.walls.iter().flat_map(|wall| wall.to_bytes().into_iter().skip(1)));
     bytes
 }
@@ -59,14 +60,14 @@ fn parse_records(bytes: &[u8]) -> Option<HandedIn> {
     let (ntracks, bytes) = bytes.split_first_chunk()?;
     let (nwalls, bytes) = bytes.split_first_chunk()?;
     let (count, bytes) = bytes.split_first_chunk()?;
-    let (tracks, walls) = split_at(bytes, (Track::LENGTH - 1) * length(count))?;
-    let tracks = tracks.chunks(Track::LENGTH - 1).map(|track| track.first_chunk());
+    let (tracks, walls) = split_at(bytes, (Track::LATE_LENGTH - 1) * length(count))?;
+    let tracks = tracks.chunks(Track::LATE_LENGTH - 1).map(|track| track.first_chunk());
     let walls = walls.chunks(Wall::LENGTH - 1).map(|wall| wall.first_chunk());
     Some(HandedIn {
         ntracks: u64::from_le_bytes(*ntracks),
         nwalls: u64::from_le_bytes(*nwalls),
         listed: Records {
-            tracks: tracks.map(|track| track.map(Track::from_operands)).collect::<Option<_>>()?,
+            tracks: tracks.map(|track| track.map(Track::from_late_operands)).collect::<Option<_>>()?,
             walls: walls.map(|wall| wall.map(Wall::from_operands)).collect::<Option<_>>()?,
         },
     })
@@ -120,9 +121,12 @@ pub fn read_frames(input: &mut impl Read) -> io::Result<Vec<Frame>> {
     Ok(frames)
 }
 
-/// The sheets, records and lookups that the proved program is asked.
+/// The sheets, records and lookups that the proved program is asked. Sheets with start times come after the others, so
+/// that what these are does not depend on them.
 pub fn all(seed: u64) -> Vec<Frame> {
-    let sheets = made_up::with_other_orders(seed, [chosen::all(), made_up::all(seed)].concat());
+    let at_once = [chosen::without_start_times(), made_up::without_start_times(seed)].concat();
+    let late = [chosen::late::sheets(), made_up::late::all(seed)].concat();
+    let sheets = [at_once, late].map(|sheets| made_up::with_other_orders(seed, sheets)).concat();
     let records = [chosen::handed_in::all(), made_up::handed_in::all(seed)].concat();
     let lookups = [chosen::names::all(), made_up::names::all(seed)].concat();
     let sheets = sheets.into_iter().map(Frame::Sheet);

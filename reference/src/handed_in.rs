@@ -4,7 +4,7 @@
 use crate::refusal::{Refusal, TOO_MANY};
 use crate::sheet::{check, Records, Track, Wall, MAX_RECORDS};
 
-const BLANK_TRACK: Track = Track { id: 0, x: 0, y: 0, vx: 0, vy: 0 };
+const BLANK_TRACK: Track = Track { id: 0, x: 0, y: 0, vx: 0, vy: 0, start_time: 0 };
 const BLANK_WALL: Wall = Wall { id: 0, ax: 0, ay: 0, bx: 0, by: 0 };
 
 #[derive(Clone, Debug, PartialEq, Eq)]
@@ -36,10 +36,11 @@ impl HandedIn {
     pub fn check(&self) -> Result<Records, Refusal> {
         let records = self.counted();
         let Records { tracks, walls } = &records;
+        let walls_at = tracks.iter().map(|track| track.command().length()).sum();
         check(tracks, &[])?;
-        refuse_257th(self.ntracks, MAX_RECORDS * Track::LENGTH)?;
+        refuse_257th(self.ntracks, walls_at)?;
         check(tracks, walls)?;
-        refuse_257th(self.nwalls, tracks.len() * Track::LENGTH + MAX_RECORDS * Wall::LENGTH)?;
+        refuse_257th(self.nwalls, walls_at + MAX_RECORDS * Wall::LENGTH)?;
         Ok(records)
     }
 }

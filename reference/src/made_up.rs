@@ -2,10 +2,11 @@
 
 pub mod entering;
 pub mod handed_in;
+pub mod late;
 pub mod names;
 
 use crate::rng::Rng;
-use crate::sheet::{commands, listing, read, Command, Records, Track, Wall, MAX_COORDINATE};
+use crate::sheet::{listing, read, whole_commands, Command, Records, Track, Wall, MAX_COORDINATE};
 
 /// Where starts and wall ends are put: `count` lines each way, `step` apart. Few lines make
 /// meetings, shared lines and refusals 8 to 11 frequent.
@@ -44,6 +45,7 @@ impl Ground {
             y: self.coordinate(rng),
             vx: self.speed(rng),
             vy: self.speed(rng),
+            start_time: 0,
         }
     }
 
@@ -69,7 +71,7 @@ impl Ground {
     /// A command that breaks rules 4 or 5 as well, now and then.
     fn doubtful_command(&self, rng: &mut Rng) -> Command {
         match self.command(rng) {
-            Command::End => Command::End,
+            other @ (Command::End | Command::LateTrack(_)) => other,
             Command::Track(mut track) => {
                 match rng.below(12) {
                     0 => track.x = rng.pick(&[4095, 4096, 5000, 65535]),
@@ -146,8 +148,8 @@ fn provoking_command(rng: &mut Rng, ground: &Ground, track: &Track) -> Command {
     match rng.below(6) {
         0 => Command::Track(Track { id: track.id, ..other }),
         1 => Command::Track(Track { x, y, ..other }),
-        2 => Command::Track(Track { id: other.id, x: far_x, y: far_y, vx: -vx, vy: -vy }),
-        3 => Command::Track(Track { id: other.id, x: far_x, y: far_y, vx, vy }),
+        2 => Command::Track(Track { x: far_x, y: far_y, vx: -vx, vy: -vy, ..other }),
+        3 => Command::Track(Track { x: far_x, y: far_y, vx, vy, ..other }),
         4 => Command::Wall(Wall { ax: x, ay: y, ..other_wall }),
         _ => Command::Wall(Wall { bx: far_x, by: far_y, ..other_wall }),
     }
@@ -168,9 +170,13 @@ pub fn provoked(rng: &mut Rng) -> Vec<u8> {
     listing(commands)
 }
 
-/// A sheet with one to three of its bytes changed, put in or taken out, or with its end cut off.
 pub fn damaged(rng: &mut Rng) -> Vec<u8> {
-    let mut bytes = accepted(rng);
+    let sheet = accepted(rng);
+    damage(rng, sheet)
+}
+
+/// A sheet with one to three of its bytes changed, put in or taken out, or with its end cut off.
+fn damage(rng: &mut Rng, mut bytes: Vec<u8>) -> Vec<u8> {
     for _ in 0..=rng.below(3) {
         let byte = if rng.one_in(2) { rng.below(4) as u8 } else { rng.draw() as u8 };
         let place = rng.below(bytes.len() + 1);
@@ -193,10 +199,12 @@ pub fn large(rng: &mut Rng) -> Vec<u8> {
     listing(ground.accepted(rng, draws))
 }
 
-/// The commands of an accepted sheet of at least two, listed in another order.
+/// The commands of an accepted sheet of at least two, listed in another order. A track by 03 stays one, also with start
+/// time 0.
 pub fn in_another_order(rng: &mut Rng, sheet: &[u8]) -> Option<Vec<u8>> {
-    let records = read(sheet).ok()?;
-    let mut shuffled: Vec<Command> = commands(&records.tracks, &records.walls).collect();
+    read(sheet).ok()?;
+    let mut shuffled = whole_commands(sheet).ok()?;
+    shuffled.sort_by_key(|command| command.as_track().is_none());
     rng.shuffle(&mut shuffled);
     if listing(shuffled.clone()) == sheet {
         shuffled.reverse();
@@ -216,6 +224,11 @@ pub fn with_other_orders(seed: u64, sheets: Vec<Vec<u8>>) -> Vec<Vec<u8>> {
 
 /// All made-up sheets of one seed.
 pub fn all(seed: u64) -> Vec<Vec<u8>> {
+    [without_start_times(seed), late::all(seed)].concat()
+}
+
+/// Those that list no 03, unless damage makes one.
+pub fn without_start_times(seed: u64) -> Vec<Vec<u8>> {
     let mut rng = Rng::new(seed);
     let mut sheets = Vec::new();
     let mut add = |count, make: fn(&mut Rng) -> Vec<u8>| {

@@ -110,40 +110,51 @@ struct Event {
     cause: Cause,
 }
 
+/// A time of the sheet, from the age of a tip: the time since its start (SHEETS 4.1).
+fn at_age(tip: &Track, age: Fraction) -> Fraction {
+    Fraction::whole(tip.start_time) + age
+}
+
 /// When tip `a` gets to a point of the line of tip `b`, and when `b` got there, if `b` is first or
 /// both come together (SHEETS 4.5).
 fn contact_with_track(a: &Track, b: &Track) -> Option<(Fraction, Fraction)> {
     let (v, w) = (a.speed(), b.speed());
     let between = b.start() - a.start();
     let turn = v.cross(w);
-    if turn == 0 {
-        return contact_along_line(v, w, between);
-    }
-    let time = Fraction::new(between.cross(w), turn);
-    let reached = Fraction::new(between.cross(v), turn);
-    (Fraction::ZERO <= reached && reached <= time).then_some((time, reached))
+    let ages = if turn == 0 {
+        ages_along_line(v, w, between)
+    } else {
+        Some((Fraction::new(between.cross(w), turn), Fraction::new(between.cross(v), turn)))
+    };
+    let (own, other) = ages.filter(|(own, other)| *own.min(other) >= Fraction::ZERO)?;
+    let (time, reached) = (at_age(a, own), at_age(b, other));
+    (reached <= time).then_some((time, reached))
 }
 
-/// On one line only the tip behind can be ended by the other: at the other's start (SHEETS 4.8).
-/// The one in front never meets a trace of one behind: that one goes no further than this start.
-fn contact_along_line(v: Vector, w: Vector, between: Vector) -> Option<(Fraction, Fraction)> {
-    let behind = v.cross(between) == 0 && v.dot(w) > 0 && v.dot(between) > 0;
-    behind.then(|| (Fraction::new(v.dot(between), v.dot(v)), Fraction::ZERO))
+/// The ages of two tips on one line at the start of the one in front, if they go the same way. Beyond
+/// that start no trace of one meets the other (SHEETS 4.8): if the tip in front has opened before the
+/// one behind comes, this one ends there, and otherwise the tip in front ends as it opens.
+fn ages_along_line(v: Vector, w: Vector, between: Vector) -> Option<(Fraction, Fraction)> {
+    let one_line = v.cross(between) == 0 && v.dot(w) > 0;
+    let way = |speed: Vector| Fraction::new(speed.dot(between), speed.dot(speed));
+    let ages = if v.dot(between) > 0 { (way(v), Fraction::ZERO) } else { (Fraction::ZERO, -way(w)) };
+    one_line.then_some(ages)
 }
 
 fn contact_with_wall(track: &Track, wall: &Wall) -> Option<Fraction> {
     let (v, along) = (track.speed(), wall.b() - wall.a());
     let (to_a, to_b) = (wall.a() - track.start(), wall.b() - track.start());
     let turn = v.cross(along);
-    if turn == 0 {
+    let age = if turn == 0 {
         let nearer = v.dot(to_a).min(v.dot(to_b));
         let ahead = v.cross(to_a) == 0 && nearer > 0;
-        return ahead.then(|| Fraction::new(nearer, v.dot(v)));
-    }
-    let time = Fraction::new(to_a.cross(along), turn);
-    let part = Fraction::new(to_a.cross(v), turn);
-    let on_wall = Fraction::ZERO <= part && part <= Fraction::ONE;
-    (on_wall && time >= Fraction::ZERO).then_some(time)
+        ahead.then(|| Fraction::new(nearer, v.dot(v)))
+    } else {
+        let part = Fraction::new(to_a.cross(v), turn);
+        let on_wall = Fraction::ZERO <= part && part <= Fraction::ONE;
+        on_wall.then(|| Fraction::new(to_a.cross(along), turn))
+    };
+    age.filter(|age| *age >= Fraction::ZERO).map(|age| at_age(track, age))
 }
 
 /// The last moment inside the sheet (SHEETS 4.4).
@@ -152,8 +163,8 @@ fn contact_with_edge(track: &Track) -> Fraction {
         let room = if speed > 0 { MAX_COORDINATE - start } else { start };
         (speed != 0).then(|| Fraction::new(room, speed.unsigned_abs()))
     };
-    let times = [last(track.x, track.vx), last(track.y, track.vy)];
-    times.into_iter().flatten().min().expect("a tip that moves")
+    let ages = [last(track.x, track.vx), last(track.y, track.vy)];
+    at_age(track, ages.into_iter().flatten().min().expect("a tip that moves"))
 }
 
 fn events_of(index: usize, records: &Records) -> Vec<Event> {
@@ -165,7 +176,7 @@ fn events_of(index: usize, records: &Records) -> Vec<Event> {
             events.push(event(time, Cause::Wall { id: wall.id }));
         }
     }
-    for (other, partner) in records.tracks.iter().enumerate() {
+    for (other, partner) in records.tracks.iter().enumerate().filter(|(other, _)| *other != index) {
         if let Some((time, reached)) = contact_with_track(track, partner) {
             events.push(event(time, Cause::Track { id: partner.id, index: other, reached }));
         }

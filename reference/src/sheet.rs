@@ -7,6 +7,7 @@ use crate::refusal::*;
 pub const MAX_RECORDS: usize = 256;
 pub const MAX_COORDINATE: u16 = 4095;
 pub const MAX_SPEED: i8 = 63;
+pub const MAX_START_TIME: u16 = 4095;
 
 #[derive(Clone, Copy, Debug, PartialEq, Eq)]
 pub struct Track {
@@ -15,6 +16,7 @@ pub struct Track {
     pub y: u16,
     pub vx: i8,
     pub vy: i8,
+    pub start_time: u16,
 }
 
 #[derive(Clone, Copy, Debug, PartialEq, Eq)]
@@ -26,10 +28,14 @@ pub struct Wall {
     pub by: u16,
 }
 
+/// A command as it is listed (SHEETS 2.1).
 #[derive(Clone, Copy, Debug, PartialEq, Eq)]
 pub enum Command {
     End,
+    /// 01: the start time is 0.
     Track(Track),
+    /// 03: the start time is given, be it 0.
+    LateTrack(Track),
     Wall(Wall),
 }
 
@@ -41,7 +47,9 @@ pub struct Records {
 }
 
 impl Track {
+    /// The lengths of 01 and of 03.
     pub const LENGTH: usize = 9;
+    pub const LATE_LENGTH: usize = 11;
 
     pub fn start(&self) -> Vector {
         Vector::new(self.x, self.y)
@@ -51,21 +59,34 @@ impl Track {
         Vector::new(self.vx, self.vy)
     }
 
-    /// Where the tip is at a time, if it has not ended (SHEETS 4.1).
+    /// Where the tip is at a time not before its start time, if it has not ended (SHEETS 4.1).
     pub fn at(&self, time: Fraction) -> (Fraction, Fraction) {
-        let along = |start: u16, speed: i8| Fraction::whole(start) + Fraction::whole(speed) * time;
+        let age = time - Fraction::whole(self.start_time);
+        let along = |start: u16, speed: i8| Fraction::whole(start) + Fraction::whole(speed) * age;
         (along(self.x, self.vx), along(self.y, self.vy))
     }
 
-    pub fn to_bytes(self) -> [u8; Self::LENGTH] {
+    /// The command of the ordered form and of handed-in records (SHEETS 2.6, 2.8): 03 only where 01 would not do.
+    pub fn command(self) -> Command {
+        if self.start_time == 0 {
+            Command::Track(self)
+        } else {
+            Command::LateTrack(self)
+        }
+    }
+
+    /// The operands of 03; those of 01 are the first eight.
+    pub fn operands(self) -> [u8; Self::LATE_LENGTH - 1] {
         let [id0, id1] = self.id.to_le_bytes();
         let [x0, x1] = self.x.to_le_bytes();
         let [y0, y1] = self.y.to_le_bytes();
         let [vx] = self.vx.to_le_bytes();
         let [vy] = self.vy.to_le_bytes();
-        [1, id0, id1, x0, x1, y0, y1, vx, vy]
+        let [start0, start1] = self.start_time.to_le_bytes();
+        [id0, id1, x0, x1, y0, y1, vx, vy, start0, start1]
     }
 
+    /// From the operands of 01.
     pub fn from_operands(b: &[u8; Self::LENGTH - 1]) -> Self {
         Track {
             id: u16::from_le_bytes([b[0], b[1]]),
@@ -73,7 +94,15 @@ impl Track {
             y: u16::from_le_bytes([b[4], b[5]]),
             vx: i8::from_le_bytes([b[6]]),
             vy: i8::from_le_bytes([b[7]]),
+            start_time: 0,
         }
+    }
+
+    /// From the operands of 03.
+    pub fn from_late_operands(b: &[u8; Self::LATE_LENGTH - 1]) -> Self {
+        let [id0, id1, x0, x1, y0, y1, vx, vy, start0, start1] = *b;
+        let start_time = u16::from_le_bytes([start0, start1]);
+        Track { start_time, ..Track::from_operands(&[id0, id1, x0, x1, y0, y1, vx, vy]) }
     }
 
     fn has_good_speed(&self) -> bool {
@@ -81,7 +110,7 @@ impl Track {
         allowed.contains(&self.vx) && allowed.contains(&self.vy) && (self.vx, self.vy) != (0, 0)
     }
 
-    /// The two tips run toward each other on one line (SHEETS 3.6).
+    /// The two tips run toward each other on one line (SHEETS 3.6). Start times play no part.
     fn faces(&self, other: &Track) -> bool {
         let (v, w) = (self.speed(), other.speed());
         let between = other.start() - self.start();
@@ -128,38 +157,45 @@ impl Wall {
 
 impl Command {
     fn parse(rest: &[u8]) -> Result<Command, u8> {
-        match rest {
-            [0, ..] => Ok(Command::End),
-            [1, operands @ ..] => {
-                operands.first_chunk().map(|operands| Command::Track(Track::from_operands(operands))).ok_or(CUT_SHORT)
-            }
-            [2, operands @ ..] => {
-                operands.first_chunk().map(|operands| Command::Wall(Wall::from_operands(operands))).ok_or(CUT_SHORT)
-            }
-            [_, ..] => Err(UNKNOWN_COMMAND),
-            [] => Err(CUT_SHORT),
-        }
+        let whole = match rest {
+            [0, ..] => Some(Command::End),
+            [1, operands @ ..] => operands.first_chunk().map(|it| Command::Track(Track::from_operands(it))),
+            [2, operands @ ..] => operands.first_chunk().map(|it| Command::Wall(Wall::from_operands(it))),
+            [3, operands @ ..] => operands.first_chunk().map(|it| Command::LateTrack(Track::from_late_operands(it))),
+            [_, ..] => return Err(UNKNOWN_COMMAND),
+            [] => None,
+        };
+        whole.ok_or(CUT_SHORT)
     }
 
     pub fn length(&self) -> usize {
         match self {
             Command::End => 1,
             Command::Track(_) => Track::LENGTH,
+            Command::LateTrack(_) => Track::LATE_LENGTH,
             Command::Wall(_) => Wall::LENGTH,
         }
     }
 
     pub fn as_track(&self) -> Option<Track> {
         match self {
-            Command::Track(track) => Some(*track),
-            _ => None,
+            Command::Track(track) | Command::LateTrack(track) => Some(*track),
+            Command::End | Command::Wall(_) => None,
         }
     }
 
     fn append_to(&self, bytes: &mut Vec<u8>) {
         match self {
             Command::End => bytes.push(0),
-            Command::Track(track) => bytes.extend(track.to_bytes()),
+            Command::Track(track) => {
+                assert_eq!(track.start_time, 0, "01 has no start time");
+                bytes.push(1);
+                bytes.extend(&track.operands()[..Track::LENGTH - 1]);
+            }
+            Command::LateTrack(track) => {
+                bytes.push(3);
+                bytes.extend(track.operands());
+            }
             Command::Wall(wall) => bytes.extend(wall.to_bytes()),
         }
     }
@@ -172,7 +208,7 @@ impl Records {
         for command in commands {
             match *command {
                 Command::End => {}
-                Command::Track(track) => records.tracks.push(track),
+                Command::Track(track) | Command::LateTrack(track) => records.tracks.push(track),
                 Command::Wall(wall) => records.walls.push(wall),
             }
         }
@@ -183,7 +219,7 @@ impl Records {
     pub fn admit(&mut self, command: Command) -> Result<(), u8> {
         match command {
             Command::End => {}
-            Command::Track(track) => {
+            Command::Track(track) | Command::LateTrack(track) => {
                 self.test_track(&track)?;
                 self.tracks.push(track);
             }
@@ -198,7 +234,7 @@ impl Records {
     fn test_track(&self, new: &Track) -> Result<(), u8> {
         let start = new.start();
         refuse_if(TOO_MANY, self.tracks.len() == MAX_RECORDS)?;
-        refuse_if(COORDINATE, new.x.max(new.y) > MAX_COORDINATE)?;
+        refuse_if(COORDINATE, new.x.max(new.y) > MAX_COORDINATE || new.start_time > MAX_START_TIME)?;
         refuse_if(SPEED, !new.has_good_speed())?;
         refuse_if(ID_USED, self.tracks.iter().any(|old| old.id == new.id))?;
         refuse_if(START_USED, self.tracks.iter().any(|old| old.start() == start))?;
@@ -262,7 +298,7 @@ pub fn whole_commands(bytes: &[u8]) -> Result<Vec<Command>, Refusal> {
 
 /// Handed-in records as commands, tracks before walls, without the final 00.
 pub fn commands<'a>(tracks: &'a [Track], walls: &'a [Wall]) -> impl Iterator<Item = Command> + 'a {
-    let tracks = tracks.iter().copied().map(Command::Track);
+    let tracks = tracks.iter().copied().map(Track::command);
     tracks.chain(walls.iter().copied().map(Command::Wall))
 }
 

@@ -4,9 +4,9 @@ mod crossings;
 
 use crossings::entries;
 use reference::cells::{entry, ids_in, listing, Cell, FIGURES};
-use reference::chosen::{self, document, track, wall};
+use reference::chosen::{self, document, late, track, wall};
 use reference::made_up;
-use reference::made_up::entering::{entering, Entering};
+use reference::made_up::entering::{entering, entering_late, Entering};
 use reference::rng::Rng;
 use reference::roll::{roll, Row};
 use reference::sheet::{self, read, Command, Records, Track};
@@ -95,6 +95,40 @@ fn one_point_is_an_entry() {
     assert_eq!(ids(&[falling, track(0, 480, 900, 2, 0), track(3, 497, 920, 1, 0)], 1, 1), [3, 0, 1]);
 }
 
+#[test]
+fn by_times_of_the_sheet_and_not_by_ages() {
+    // They enter the cell (1, 1) at ages 1, 4 and 9, and at the times 21, 14 and 9.
+    let (first, second, third) = (late(1, 511, 600, 1, 0, 20), late(2, 508, 700, 1, 0, 10), track(3, 503, 800, 1, 0));
+    assert_eq!(ids(&[first, second, third], 1, 1), [3, 2, 1]);
+    // At one time, 12, with ages 12, 2 and 0, and one just after that, on the right border; by id.
+    let commands = [
+        late(9, 512, 600, 1, 0, 12),
+        track(7, 500, 700, 1, 0),
+        late(8, 510, 800, 1, 0, 10),
+        late(3, 1024, 900, -1, 0, 12),
+    ];
+    assert_eq!(ids(&commands, 1, 1), [3, 7, 8, 9]);
+}
+
+#[test]
+fn the_first_cell_is_entered_at_the_start_time() {
+    // 1 starts in the cell at 30, 2 comes into it at 29, 3 at 30 and 4 at 31.
+    let commands =
+        [late(1, 600, 600, 1, 0, 30), track(2, 483, 700, 1, 0), track(3, 482, 800, 1, 0), late(4, 510, 900, 1, 0, 29)];
+    assert_eq!(ids(&commands, 1, 1), [2, 1, 3, 4]);
+    // 6 starts at 5 on the border of two cells and leaves it at once: it enters both at 5, after 7 and before 5.
+    let commands = [late(6, 512, 600, -1, 0, 5), late(7, 500, 700, 1, 1, 4), late(5, 509, 900, -1, 0, 6)];
+    assert_eq!(ids(&commands, 0, 1), [7, 6, 5]);
+    assert_eq!(ids(&commands, 1, 1), [6, 7]);
+}
+
+#[test]
+fn a_tip_that_ends_as_it_opens_enters_the_cell_of_its_start() {
+    // 1 opens on the border of two cells, on the trace of 2, and has no other point.
+    let commands = [late(1, 512, 600, -1, 1, 40), track(2, 500, 600, 1, 0), track(3, 100, 100, 1, 0)];
+    assert_eq!((ids(&commands, 0, 1), ids(&commands, 1, 1)), (vec![2], vec![2, 1]));
+}
+
 fn all_cells(figure: u64) -> impl Iterator<Item = Cell> {
     (0..figure).flat_map(move |column| (0..figure).map(move |row| Cell { column, row }))
 }
@@ -115,7 +149,7 @@ fn entries_of_chosen_and_made_up_sheets() {
     let mut rng = Rng::new(31);
     let grounds = made_up::GROUNDS.repeat(20);
     let made_up = grounds.iter().map(|ground| sheet::listing(ground.accepted(&mut rng, 12)));
-    for sheet in made_up.chain(chosen::endings::sheets()) {
+    for sheet in made_up.chain(chosen::endings::sheets()).chain(chosen::late::sheets()) {
         if let Ok(records) = read(&sheet) {
             [1, 2, 4, 8].into_iter().for_each(|figure| check_entries(&records, figure));
         }
@@ -136,10 +170,18 @@ fn has_open_beside_closed(records: &Records, figure: u64, cell: Cell) -> bool {
 
 #[test]
 fn tips_that_enter_together() {
-    let mut rng = Rng::new(34);
+    enter_together(Rng::new(34), entering);
+}
+
+#[test]
+fn tips_that_open_late_and_enter_together() {
+    enter_together(Rng::new(35), entering_late);
+}
+
+fn enter_together(mut rng: Rng, make: fn(&mut Rng) -> Entering) {
     let mut open_beside_closed = 0;
     for _ in 0..400 {
-        let Entering { sheet, figure, cell } = entering(&mut rng);
+        let Entering { sheet, figure, cell } = make(&mut rng);
         let records = read(&sheet).expect("accepted");
         check_entries(&records, figure);
         open_beside_closed += usize::from(has_open_beside_closed(&records, figure, cell));

@@ -4,7 +4,7 @@ mod crossings;
 
 use crossings::entries;
 use reference::cells::{cells_entered, cells_of, count, counts, ids_in, listing, Cell, FIGURES};
-use reference::chosen::{self, document, track};
+use reference::chosen::{self, document, late, track};
 use reference::fraction::Fraction;
 use reference::made_up;
 use reference::refusal::Refusal;
@@ -91,6 +91,27 @@ fn cells_of_made_up_sheets() {
             let commands = ground.accepted(&mut rng, draws);
             check_cells(&read(&sheet::listing(commands)).expect("accepted"));
         }
+    }
+}
+
+#[test]
+fn cells_of_sheets_with_start_times() {
+    let mut rng = Rng::new(25);
+    for make in made_up::late::MAKERS {
+        for _ in 0..150 {
+            check_cells(&read(&make(&mut rng)).expect("accepted"));
+        }
+    }
+}
+
+#[test]
+fn a_start_time_does_not_change_the_cells_of_a_tip_alone() {
+    for start_time in [0, 1, 77, 4095] {
+        let falling = read(&sheet::listing([late(1, 512, 512, -1, 0, start_time)])).expect("accepted");
+        let rows = roll(&falling);
+        assert_eq!(rows[0].time, Fraction::whole(512 + start_time));
+        let cells = cells_of(&falling.tracks[0], rows[0].time, 8);
+        assert_eq!(cells, [Cell { column: 0, row: 1 }, Cell { column: 1, row: 1 }]);
     }
 }
 

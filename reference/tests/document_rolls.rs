@@ -1,6 +1,6 @@
-//! The rolls of the starred sheets.
+//! The rolls of the starred sheets, and of the examples with start times.
 
-use reference::chosen::document;
+use reference::chosen::{document, late};
 use reference::roll::{roll, roll_bytes, Row};
 use reference::sheet::{read, Records};
 
@@ -84,4 +84,28 @@ fn sheet_j() {
 #[test]
 fn sheet_k() {
     assert!(printed("K").is_empty());
+}
+
+/// Rows of an example with start times.
+fn printed_late(name: &str) -> Vec<String> {
+    roll(&read(&late::example(name)).expect("accepted")).iter().map(Row::to_string).collect()
+}
+
+#[test]
+fn sheet_opening() {
+    let rows = ["3 3 1 10/1 12800 6400", "1 1 3 30/1 9600 6400", "2 3 2 35/1 16000 9600", "4 1 1 50/1 9600 6400"];
+    assert_eq!(printed_late("opening"), rows);
+}
+
+#[test]
+fn sheet_behind() {
+    let together = ["1 1 2 10/1 12800 6400", "3 2 4 10/1 12800 12800", "4 2 3 10/1 12800 12800"];
+    let later = ["2 3 1 15/1 25600 6400", "6 1 5 15/1 12800 19200", "5 3 1 30/1 25600 19200"];
+    assert_eq!(printed_late("behind"), [together, later].concat());
+}
+
+#[test]
+fn sheet_late() {
+    let rows = ["3 2 4 10/1 12800 12800", "4 2 3 10/1 12800 12800", "1 4 0 20/1 0 6400", "2 1 1 40/1 0 6400"];
+    assert_eq!(printed_late("late"), rows);
 }

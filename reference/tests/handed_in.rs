@@ -1,5 +1,6 @@
 //! Records handed in: refused as the sheet that lists them.
 
+use reference::chosen::late::tracks_starting;
 use reference::chosen::{self, track, tracks, wall, walls};
 use reference::handed_in::HandedIn;
 use reference::made_up;
@@ -29,6 +30,16 @@ fn counts_above_256_are_7_at_the_257th_of_its_kind() {
 }
 
 #[test]
+fn the_place_of_the_257th_depends_on_the_start_times() {
+    let full = [tracks_starting(256, Some), walls(256)].concat();
+    assert_eq!(refusal(256, 256, &full), None);
+    // The first start time is 0.
+    assert_eq!(refusal(257, 0, &full), Some((7, 2814)));
+    assert_eq!(refusal(256, 257, &full), Some((7, 5630)));
+    assert_eq!(refusal(2, 257, &full), Some((7, 2836)));
+}
+
+#[test]
 fn what_comes_before_the_257th_is_refused_first() {
     let mut commands = tracks(256);
     commands[255] = track(255, 4096, 0, 1, 1);
@@ -51,11 +62,13 @@ fn what_stands_behind_the_counted_does_not_count() {
     assert_eq!(handed_in.check(), Ok(Records::of(&listed[..1])));
 }
 
+const BLANK: Track = Track { id: 0, x: 0, y: 0, vx: 0, vy: 0, start_time: 0 };
+
 /// The sheet that lists the counted records. It need not go far beyond the 257th.
 fn listed_sheet(handed_in: &HandedIn) -> Vec<u8> {
     let HandedIn { ntracks, nwalls, listed } = handed_in;
     let mut all = listed.clone();
-    all.tracks.resize((*ntracks).min(300) as usize, Track { id: 0, x: 0, y: 0, vx: 0, vy: 0 });
+    all.tracks.resize((*ntracks).min(300) as usize, BLANK);
     all.walls.resize((*nwalls).min(300) as usize, Wall { id: 0, ax: 0, ay: 0, bx: 0, by: 0 });
     listing(commands(&all.tracks, &all.walls))
 }

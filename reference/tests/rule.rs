@@ -3,7 +3,7 @@
 
 use reference::chosen;
 use reference::fraction::Fraction;
-use reference::made_up;
+use reference::made_up::{self, late};
 use reference::plane::Vector;
 use reference::rng::Rng;
 use reference::roll::{roll, roll_bytes, Ending, Row};
@@ -36,37 +36,56 @@ impl Span {
     }
 }
 
-const ALWAYS: Span = Span { from: Fraction::ZERO, to: None };
-
 fn whole(number: i64) -> Fraction {
     Fraction::whole(number)
 }
 
-fn at(start: Vector, speed: Vector, time: Fraction) -> (Fraction, Fraction) {
-    (whole(start.x) + whole(speed.x) * time, whole(start.y) + whole(speed.y) * time)
-}
-
-/// A moving point. A wall is one too, going from end to end by time 1.
+/// A point that moves from one time on to another. `origin` is where it would be at time 0. A wall is one too, going from
+/// end to end by time 1 of a clock of its own.
 #[derive(Clone, Copy)]
 struct Mover {
-    start: Vector,
+    origin: Vector,
     speed: Vector,
-    end: Fraction,
+    from: Fraction,
+    to: Option<Fraction>,
 }
 
-/// The earliest t ≥ 0 at which the tip is where the mover is at some s from 0 to its end, with
-/// s ≤ t if the mover has to be there first.
-fn earliest(tip: &Track, mover: Mover, first: bool) -> Option<Fraction> {
-    let (p, v) = (tip.start(), tip.speed());
-    let Mover { start: q, speed: w, end } = mover;
+impl Mover {
+    /// At t it is at its start + (t − start time) × speed (SHEETS 4.1), from its start time on.
+    fn tip(track: &Track, end: Option<Fraction>) -> Mover {
+        let from = i64::from(track.start_time);
+        Mover { origin: track.start() - track.speed() * from, speed: track.speed(), from: whole(from), to: end }
+    }
+
+    fn wall(a: Vector, b: Vector) -> Mover {
+        Mover { origin: a, speed: b - a, from: Fraction::ZERO, to: Some(Fraction::ONE) }
+    }
+
+    fn at(&self, time: Fraction) -> (Fraction, Fraction) {
+        let along = |origin: i64, speed: i64| whole(origin) + whole(speed) * time;
+        (along(self.origin.x, self.speed.x), along(self.origin.y, self.speed.y))
+    }
+
+    fn times(&self) -> Span {
+        Span { from: self.from, to: self.to }
+    }
+}
+
+/// The earliest t from the tip's start time on at which it is where the mover is at some s of the
+/// mover's times, with s ≤ t if the mover has to be there first.
+fn earliest(tip: Mover, mover: Mover, first: bool) -> Option<Fraction> {
+    let (p, v) = (tip.origin, tip.speed);
+    let Mover { origin: q, speed: w, from, to } = mover;
     // s as constant + slope × t, from a coordinate in which the mover moves.
     let (constant, slope) = if w.x != 0 {
         (Fraction::new(p.x - q.x, w.x), Fraction::new(v.x, w.x))
     } else {
         (Fraction::new(p.y - q.y, w.y), Fraction::new(v.y, w.y))
     };
-    let mut span = ALWAYS.keep(constant, slope)?;
-    span = span.keep(end - constant, -slope)?;
+    let mut span = tip.times().keep(constant - from, slope)?;
+    if let Some(to) = to {
+        span = span.keep(to - constant, -slope)?;
+    }
     if first {
         span = span.keep(-constant, Fraction::ONE - slope)?;
     }
@@ -80,20 +99,19 @@ fn earliest(tip: &Track, mover: Mover, first: bool) -> Option<Fraction> {
 }
 
 /// When the mover is at the tip's place of that time.
-fn mover_there(tip: &Track, time: Fraction, mover: Mover) -> Option<Fraction> {
-    let (x, y) = at(tip.start(), tip.speed(), time);
-    let Mover { start: q, speed: w, end } = mover;
+fn mover_there(tip: Mover, time: Fraction, mover: Mover) -> Option<Fraction> {
+    let (x, y) = tip.at(time);
+    let Mover { origin: q, speed: w, from, to } = mover;
     let s = if w.x != 0 { (x - whole(q.x)).over(whole(w.x)) } else { (y - whole(q.y)).over(whole(w.y)) };
-    let there = at(q, w, s) == (x, y) && s >= Fraction::ZERO && s <= end;
+    let there = mover.at(s) == (x, y) && s >= from && to.is_none_or(|to| s <= to);
     there.then_some(s)
 }
 
-fn last_inside(tip: &Track) -> Fraction {
-    let mut span = ALWAYS;
-    for (start, speed) in [(tip.x, tip.vx), (tip.y, tip.vy)] {
-        let (start, speed) = (Fraction::whole(start), Fraction::whole(speed));
-        let inside = span.keep(start, speed);
-        let inside = inside.and_then(|span| span.keep(whole(4095) - start, -speed));
+fn last_inside(tip: Mover) -> Fraction {
+    let mut span = tip.times();
+    for (origin, speed) in [(tip.origin.x, tip.speed.x), (tip.origin.y, tip.speed.y)] {
+        let inside = span.keep(whole(origin), whole(speed));
+        let inside = inside.and_then(|span| span.keep(whole(4095 - origin), whole(-speed)));
         span = inside.expect("a start inside the sheet");
     }
     span.to.expect("a tip that moves")
@@ -101,15 +119,14 @@ fn last_inside(tip: &Track) -> Fraction {
 
 fn other_tracks(records: &Records, tip: &Track, ends: &Ends) -> Vec<(u16, Mover)> {
     let others = records.tracks.iter().filter(|other| other.id != tip.id);
-    let mover = |other: &Track| Mover { start: other.start(), speed: other.speed(), end: ends[&other.id] };
+    let mover = |other: &Track| Mover::tip(other, Some(ends[&other.id]));
     let mut movers: Vec<_> = others.map(|other| (other.id, mover(other))).collect();
     movers.sort_by_key(|(id, _)| *id);
     movers
 }
 
 fn walls(records: &Records) -> Vec<(u16, Mover)> {
-    let mover = |a: Vector, b: Vector| Mover { start: a, speed: b - a, end: Fraction::ONE };
-    let mut movers: Vec<_> = records.walls.iter().map(|wall| (wall.id, mover(wall.a(), wall.b()))).collect();
+    let mut movers: Vec<_> = records.walls.iter().map(|wall| (wall.id, Mover::wall(wall.a(), wall.b()))).collect();
     movers.sort_by_key(|(id, _)| *id);
     movers
 }
@@ -117,6 +134,7 @@ fn walls(records: &Records) -> Vec<(u16, Mover)> {
 /// The time and the ending that the rule gives the tip while the others end as in `ends`.
 fn by_the_rule(records: &Records, tip: &Track, ends: &Ends) -> (Fraction, Ending) {
     let (tracks, walls) = (other_tracks(records, tip, ends), walls(records));
+    let tip = Mover::tip(tip, None);
     let on_track = tracks.iter().filter_map(|(_, mover)| earliest(tip, *mover, true));
     let on_wall = walls.iter().filter_map(|(_, mover)| earliest(tip, *mover, false));
     let time = on_track.chain(on_wall).fold(last_inside(tip), Fraction::min);
@@ -142,7 +160,7 @@ fn check_row(records: &Records, row: &Row, ends: &Ends) {
     let tip = records.tracks.iter().find(|track| track.id == row.id).expect("a track's row");
     let (time, ending) = by_the_rule(records, tip, ends);
     assert_eq!((row.time, row.ending), (time, ending), "id {} of {records:?}", row.id);
-    let (x, y) = at(tip.start(), tip.speed(), time);
+    let (x, y) = Mover::tip(tip, None).at(time);
     for (rounded, exact) in [(row.x, x), (row.y, y)] {
         let exact = exact * whole(64);
         let rounded = Fraction::whole(rounded);
@@ -150,7 +168,7 @@ fn check_row(records: &Records, row: &Row, ends: &Ends) {
     }
     let (numerator, denominator) = row.time_in_lowest_terms();
     assert_eq!(Fraction::new(numerator, denominator), time);
-    assert!(denominator > 0);
+    assert!(numerator < 1 << 31 && 0 < denominator && denominator < 1 << 19);
     assert_eq!(greatest_common_factor(numerator, denominator), 1);
 }
 
@@ -171,12 +189,12 @@ fn check_roll(records: &Records) -> Vec<Row> {
 fn rolls_of_chosen_sheets_are_the_rule_s() {
     let sheets = chosen::all();
     let rolls = sheets.iter().filter_map(|sheet| read(sheet).ok()).map(|sheet| check_roll(&sheet));
-    assert!(rolls.count() > 900);
+    assert!(rolls.count() > 1200);
 }
 
 #[test]
 fn chosen_endings_are_accepted() {
-    for sheet in chosen::endings::sheets() {
+    for sheet in [chosen::endings::sheets(), chosen::late::endings()].concat() {
         assert_eq!(read(&sheet).err(), None, "{sheet:?}");
     }
 }
@@ -199,11 +217,34 @@ fn rolls_of_made_up_sheets_are_the_rule_s() {
 }
 
 #[test]
+fn rolls_of_sheets_with_start_times_are_the_rule_s() {
+    let mut rng = Rng::new(14);
+    // Rows of each kind, of late tips and of those that end as they open.
+    let (mut all, mut at_once) = ([0; 5], [0; 5]);
+    for make in late::MAKERS {
+        for _ in 0..1500 {
+            let records = read(&make(&mut rng)).expect("accepted");
+            for row in check_roll(&records) {
+                let track = records.tracks.iter().find(|track| track.id == row.id).expect("a row's track");
+                let kind = usize::from(row.ending.kind());
+                all[kind] += usize::from(track.start_time > 0);
+                at_once[kind] += usize::from(track.start_time > 0 && row.time == Fraction::whole(track.start_time));
+            }
+        }
+    }
+    assert!(all[1..].iter().all(|count| *count > 500), "{all:?}");
+    // No start is on a wall, so no tip ends on one as it opens.
+    assert!(at_once[1] > 500 && at_once[2] > 500 && at_once[3] == 0 && at_once[4] > 500, "{at_once:?}");
+}
+
+#[test]
 fn rolls_of_large_sheets_are_the_rule_s() {
     let mut rng = Rng::new(12);
-    for _ in 0..6 {
-        let records = read(&made_up::large(&mut rng)).expect("accepted");
-        check_roll(&records);
+    for make in [made_up::large, late::large] {
+        for _ in 0..6 {
+            let records = read(&make(&mut rng)).expect("accepted");
+            check_roll(&records);
+        }
     }
 }
 

@@ -1,9 +1,10 @@
 //! Reading and writing: the starred sheets, the ordered form, round trips, orders of commands.
 
-use reference::chosen::{self, document, track, wall};
+use reference::chosen::late::tracks_starting;
+use reference::chosen::{self, document, late, track, wall, walls};
 use reference::made_up;
 use reference::rng::Rng;
-use reference::sheet::{check, commands, listing, ordered_form, read, write};
+use reference::sheet::{check, commands, listing, ordered_form, read, whole_commands, write, Command};
 
 fn all_sheets() -> Vec<Vec<u8>> {
     [chosen::all(), made_up::all(2)].concat()
@@ -44,13 +45,42 @@ fn ordered_form_has_rising_ids() {
 }
 
 #[test]
+fn tracks_by_01_and_03_have_one_order() {
+    let (low, middle, high) = (late(1, 1, 2, 3, 4, 5), track(2, 9, 9, -1, 0), late(3, 20, 30, 1, 1, 4095));
+    let records = read(&listing([high, middle, low])).expect("accepted");
+    assert_eq!(ordered_form(&records.tracks, &records.walls), listing([low, middle, high]));
+}
+
+#[test]
+fn start_time_0_is_written_by_01() {
+    let records = read(&listing([late(2, 1, 2, 3, 4, 0), late(1, 5, 6, 7, 8, 9)])).expect("accepted");
+    let expected = listing([late(1, 5, 6, 7, 8, 9), track(2, 1, 2, 3, 4)]);
+    assert_eq!(ordered_form(&records.tracks, &records.walls), expected);
+    assert_eq!(expected.len(), 21);
+}
+
+#[test]
+fn the_longest_ordered_form() {
+    let tracks = tracks_starting(256, |i| Some(4095 - i));
+    let records = read(&listing([tracks, walls(256)].concat())).expect("accepted");
+    assert_eq!(ordered_form(&records.tracks, &records.walls).len(), 5633);
+}
+
+/// How many commands are 03 with start time 0.
+fn needless(sheet: &[u8]) -> usize {
+    let commands = whole_commands(sheet).expect("whole commands");
+    commands.iter().filter(|command| matches!(command, Command::LateTrack(track) if track.start_time == 0)).count()
+}
+
+#[test]
 fn read_after_write_and_write_after_read() {
-    let mut accepted = 0;
+    let (mut accepted, mut shorter) = (0, 0);
     for sheet in all_sheets() {
         let Ok(records) = read(&sheet) else { continue };
-        let mut out = vec![0; sheet.len()];
+        let mut out = vec![0; sheet.len() - 2 * needless(&sheet)];
         let written = write(&records.tracks, &records.walls, &mut out);
-        assert_eq!(written, Ok(sheet.len()));
+        assert_eq!(written, Ok(out.len()));
+        shorter += usize::from(out.len() < sheet.len());
         let mut again = read(&out).expect("the ordered form is accepted");
         assert_eq!(ordered_form(&again.tracks, &again.walls), out);
         assert!(again.tracks.is_sorted_by_key(|track| track.id));
@@ -63,7 +93,7 @@ fn read_after_write_and_write_after_read() {
         assert_eq!(again, expected);
         accepted += 1;
     }
-    assert!(accepted > 2000);
+    assert!(accepted > 3000 && shorter > 300);
 }
 
 #[test]
@@ -93,10 +123,21 @@ fn a_refused_sheet_of_whole_commands_is_refused_in_any_order() {
 
 #[test]
 fn every_refusal_of_the_reader_occurs_often() {
-    let mut counts = [0; 12];
-    for sheet in all_sheets() {
-        let number = read(&sheet).err().map_or(0, |refusal| refusal.number);
-        counts[usize::from(number)] += 1;
+    for sheets in [all_sheets(), [chosen::late::sheets(), made_up::late::all(2)].concat()] {
+        let mut counts = [0; 12];
+        for sheet in sheets {
+            let number = read(&sheet).err().map_or(0, |refusal| refusal.number);
+            counts[usize::from(number)] += 1;
+        }
+        assert!(counts.iter().all(|count| *count >= 15), "{counts:?}");
     }
-    assert!(counts.iter().all(|count| *count >= 20), "{counts:?}");
+}
+
+#[test]
+fn the_first_5643_bytes_decide() {
+    let longer: Vec<_> = all_sheets().into_iter().filter(|sheet| sheet.len() > 5643).collect();
+    assert!(longer.len() >= 6);
+    for sheet in longer {
+        assert_eq!(read(&sheet), read(&sheet[..5643]));
+    }
 }

@@ -1,6 +1,7 @@
 //! The lines of the refusal table (SHEETS 3.1), each with examples of its own.
 
-use reference::chosen::{self, together, track, tracks, wall, walls};
+use reference::chosen::late::{mixed, tracks_starting};
+use reference::chosen::{self, late, together, track, tracks, wall, walls};
 use reference::refusal::Refusal;
 use reference::sheet::{check, listing, read, write, Command, Records, Track, Wall};
 
@@ -17,8 +18,8 @@ fn bytes_of_one_track() -> Vec<u8> {
 }
 
 #[test]
-fn command_byte_above_two_is_1() {
-    for byte in 3..=255 {
+fn command_byte_above_three_is_1() {
+    for byte in 4..=255 {
         assert_eq!(refusal(&[byte]), Some((1, 0)));
         let mut bytes = bytes_of_one_track();
         bytes.insert(9, byte);
@@ -34,6 +35,21 @@ fn operands_cut_short_are_2_at_the_command() {
         let place = match length {
             0..=8 => 0,
             9..=19 => 9,
+            _ => 20,
+        };
+        assert_eq!(refusal(&whole[..length]), Some((2, place)), "{length} bytes");
+    }
+    assert_eq!(refusal(&whole), None);
+}
+
+#[test]
+fn operands_of_03_cut_short_are_2_at_the_command() {
+    let whole = listing([late(1, 2, 3, 4, 5, 6), track(2, 7, 8, 9, 10)]);
+    assert_eq!(whole.len(), 21);
+    for length in 0..whole.len() {
+        let place = match length {
+            0..=10 => 0,
+            11..=19 => 11,
             _ => 20,
         };
         assert_eq!(refusal(&whole[..length]), Some((2, place)), "{length} bytes");
@@ -72,6 +88,20 @@ fn coordinate_above_4095_is_4() {
 }
 
 #[test]
+fn start_time_above_4095_is_4() {
+    let before = track(1, 40, 50, 1, 1);
+    for time in [0, 1, 255, 256, 4095] {
+        assert_eq!(refusal_of(&[before, late(2, 5, 6, 1, 1, time)]), None);
+    }
+    for beyond in [4096, 4097, 8191, 32768, 65535] {
+        assert_eq!(refusal_of(&[before, late(2, 5, 6, 1, 1, beyond)]), Some((4, 9)));
+        // Before 5 and 8 and after 7.
+        assert_eq!(refusal_of(&[before, late(1, 5, 6, 0, 0, beyond)]), Some((4, 9)));
+        assert_eq!(refusal_of(&[tracks(256), vec![late(900, 1, 1, 1, 1, beyond)]].concat()), Some((7, 256 * 9)));
+    }
+}
+
+#[test]
 fn speed_outside_63_or_zero_is_5() {
     for speed in -128..=127 {
         let expected = if (-63..=63).contains(&speed) { None } else { Some((5, 0)) };
@@ -101,6 +131,18 @@ fn the_257th_of_its_kind_is_7() {
 }
 
 #[test]
+fn tracks_by_01_and_03_are_counted_together() {
+    let place = 128 * 9 + 128 * 11;
+    assert_eq!(refusal_of(&mixed(256)), None);
+    assert_eq!(refusal_of(&mixed(257)), Some((7, place)));
+    assert_eq!(refusal_of(&[mixed(256), vec![late(900, 1, 1, 1, 1, 1)]].concat()), Some((7, place)));
+    let full = tracks_starting(256, Some);
+    assert_eq!(refusal_of(&[full.clone(), walls(256)].concat()), None);
+    assert_eq!(refusal_of(&[full.clone(), vec![track(900, 1, 1, 1, 1)]].concat()), Some((7, 256 * 11)));
+    assert_eq!(refusal_of(&[full, walls(257)].concat()), Some((7, 256 * 22)));
+}
+
+#[test]
 fn id_used_by_its_kind_is_8() {
     for id in [0, 7, 65535] {
         let (a_track, a_wall) = (track(id, 2, 3, 4, 5), wall(id, 20, 30, 40, 50));
@@ -111,8 +153,19 @@ fn id_used_by_its_kind_is_8() {
 }
 
 #[test]
+fn an_id_is_used_by_01_and_by_03() {
+    let (one, other) = (track(7, 2, 3, 4, 5), late(7, 20, 30, 4, 5, 6));
+    assert_eq!(refusal_of(&[one, other]), Some((8, 9)));
+    assert_eq!(refusal_of(&[other, one]), Some((8, 11)));
+    assert_eq!(refusal_of(&[other, late(7, 40, 50, 4, 5, 7)]), Some((8, 11)));
+    assert_eq!(refusal_of(&[other, wall(7, 40, 50, 4, 5)]), None);
+}
+
+#[test]
 fn start_already_used_is_9() {
     assert_eq!(refusal_of(&[track(1, 2, 3, 4, 5), track(2, 2, 3, -4, 5)]), Some((9, 9)));
+    assert_eq!(refusal_of(&[track(1, 2, 3, 4, 5), late(2, 2, 3, -4, 5, 100)]), Some((9, 9)));
+    assert_eq!(refusal_of(&[late(1, 2, 3, 4, 5, 4095), late(2, 2, 3, 4, 5, 100)]), Some((9, 11)));
     assert_eq!(refusal_of(&[track(1, 2, 3, 4, 5), track(2, 3, 2, 4, 5)]), None);
 }
 
@@ -132,6 +185,9 @@ fn start_on_a_wall_is_10_at_the_later_command() {
         let expected = |place| if on_wall { Some((10, place)) } else { None };
         assert_eq!(refusal_of(&[slanted, start]), expected(11), "wall, then ({x}, {y})");
         assert_eq!(refusal_of(&[start, slanted]), expected(9), "({x}, {y}), then wall");
+        let start = late(1, x, y, 1, 0, 4000);
+        assert_eq!(refusal_of(&[slanted, start]), expected(11), "wall, then ({x}, {y}) late");
+        assert_eq!(refusal_of(&[start, slanted]), expected(11), "({x}, {y}) late, then wall");
     }
 }
 
@@ -145,6 +201,11 @@ fn facing_tips_are_11() {
     ];
     for pair in facing {
         assert_eq!(refusal_of(&pair), Some((11, 9)), "{pair:?}");
+        for times in [[0, 90], [90, 0], [4095, 4095]] {
+            let late = pair.map(|command| command.as_track().expect("a track"));
+            let late = [0, 1].map(|i| Command::LateTrack(Track { start_time: times[i], ..late[i] }));
+            assert_eq!(refusal_of(&late), Some((11, 11)), "{late:?}");
+        }
     }
     let apart = [
         [track(1, 0, 0, -1, 0), track(2, 10, 0, 1, 0)],
@@ -196,8 +257,17 @@ fn handed_in_records_are_refused_as_the_sheet_that_lists_them() {
 }
 
 #[test]
+fn places_of_handed_in_records_go_by_01_where_the_start_time_is_0() {
+    // The sheet itself lists 03 with start time 0; the records stand for one that lists 01.
+    let listed = [late(1, 2, 3, 4, 5, 0), late(2, 6, 7, 8, 9, 1), track(2, 20, 30, 1, 0)];
+    assert_eq!(refusal_of(&listed), Some((8, 22)));
+    let records = Records::of(&listed);
+    assert_eq!(check(&records.tracks, &records.walls), Err(Refusal { number: 8, place: 20 }));
+}
+
+#[test]
 fn handed_in_counts_above_256_are_7_whatever_they_hold() {
-    let nonsense = Track { id: 0, x: 5000, y: 0, vx: 0, vy: 0 };
+    let nonsense = Track { id: 0, x: 5000, y: 0, vx: 0, vy: 0, start_time: 5000 };
     let mut records = Records::of(&[tracks(256), walls(256)].concat());
     assert_eq!(check(&records.tracks, &records.walls), Ok(()));
     records.walls.extend([Wall { id: 0, ax: 0, ay: 0, bx: 0, by: 0 }; 300]);

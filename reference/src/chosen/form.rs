@@ -21,7 +21,7 @@ fn cut_short() -> Vec<Vec<u8>> {
 }
 
 fn after_end() -> Vec<Vec<u8>> {
-    let tails: [&[u8]; 5] = [&[0], &[1], &[3], &[255, 0], &[1, 9, 0, 1, 0, 1, 0, 1, 1, 0]];
+    let tails: [&[u8]; 5] = [&[0], &[1], &[4], &[255, 0], &[1, 9, 0, 1, 0, 1, 0, 1, 1, 0]];
     let wholes = [listing([]), listing(interleaved()), listing(tracks(1))];
     let with_tails = |whole: &Vec<u8>| tails.map(|tail| [whole, tail].concat());
     wholes.iter().flat_map(with_tails).collect()
@@ -31,7 +31,7 @@ fn unknown_commands() -> Vec<Vec<u8>> {
     let before = listing([track(1, 2, 3, 4, 5), wall(1, 2, 3, 4, 5)]);
     let before = &before[..before.len() - 1];
     let of = |byte| [[&[byte], before].concat(), [before, &[byte]].concat()];
-    (3..=255).flat_map(of).collect()
+    (4..=255).flat_map(of).collect()
 }
 
 /// Inputs longer than any accepted sheet, and refused for what comes early or late in them.
@@ -41,7 +41,7 @@ fn long() -> Vec<Vec<u8>> {
     unended.pop();
     vec![
         [full, vec![0; 1000]].concat(),
-        [unended.clone(), vec![3; 1000]].concat(),
+        [unended.clone(), vec![4; 1000]].concat(),
         [unended, vec![1; 1000]].concat(),
         vec![0; 6000],
     ]

@@ -1,7 +1,8 @@
 //! Records handed in: the chosen sheets with their tracks before their walls, counts above 256,
 //! counts other than what is listed.
 
-use super::{document, limits, together, track, tracks, wall, walls};
+use super::late::tracks_starting;
+use super::{document, late, limits, together, track, tracks, wall, walls};
 use crate::handed_in::HandedIn;
 use crate::sheet::{whole_commands, Command, Records};
 
@@ -9,10 +10,13 @@ fn counted(ntracks: u64, nwalls: u64, commands: &[Command]) -> HandedIn {
     HandedIn { ntracks, nwalls, listed: Records::of(commands) }
 }
 
-/// Those sheets that are whole commands, at most 256 of each kind.
 fn of_sheets() -> Vec<HandedIn> {
     let document = document::sheets().into_iter().map(|(_, sheet)| sheet);
-    let sheets = document.chain(limits::sheets()).chain(together::sheets());
+    whole(document.chain(limits::sheets()).chain(together::sheets()))
+}
+
+/// Those sheets that are whole commands, at most 256 of each kind.
+fn whole(sheets: impl Iterator<Item = Vec<u8>>) -> Vec<HandedIn> {
     let records = sheets.filter_map(|sheet| whole_commands(&sheet).ok()).map(|all| Records::of(&all));
     let has_room = |records: &Records| records.tracks.len().max(records.walls.len()) <= 256;
     records.filter(has_room).map(HandedIn::whole).collect()
@@ -80,6 +84,22 @@ fn behind_the_counted() -> Vec<HandedIn> {
     [left_out, counted_too].concat()
 }
 
+/// Places, where tracks are 9 or 11 bytes of the sheet that the records stand for; blanks counted behind late tracks.
+fn with_start_times() -> Vec<HandedIn> {
+    let some = |i: u16| Some(i % 3);
+    let full = [tracks_starting(256, some), walls(256)].concat();
+    let beyond = [(257, 256), (256, 257), (257, 257), (u64::MAX, u64::MAX), (0, 257), (5, 257), (6, 257)];
+    let beyond = beyond.map(|(ntracks, nwalls)| counted(ntracks, nwalls, &full));
+    let few = [tracks_starting(4, some), walls(4)].concat();
+    let pairs = [(0, 1), (3, 4), (4, 4), (4, 5), (5, 0), (4, 257), (257, 4)];
+    let few = pairs.map(|(ntracks, nwalls)| counted(ntracks, nwalls, &few));
+    let used_again = |id: u16| [tracks_starting(6, some), vec![late(id, 9, 9, 1, 1, 7)]].concat();
+    let used_again = [0, 1, 5].map(|id| HandedIn::whole(Records::of(&used_again(id))));
+    [&whole(late::sheets().into_iter().step_by(3))[..], &beyond, &few, &used_again].concat()
+}
+
 pub fn all() -> Vec<HandedIn> {
-    [of_sheets(), beyond_the_room(), faulty_with_one_too_many(), counts_and_lists(), behind_the_counted()].concat()
+    let records =
+        [of_sheets(), beyond_the_room(), faulty_with_one_too_many(), counts_and_lists(), behind_the_counted()];
+    [records.concat(), with_start_times()].concat()
 }

@@ -1,11 +1,12 @@
-//! Chosen sheets: the starred ones, each line of the refusal table at its limits, and endings
-//! that the rule has to tell apart.
+//! Chosen sheets: the starred ones, each line of the refusal table at its limits, endings that the
+//! rule has to tell apart, and start times in all of these.
 
 pub mod document;
 pub mod endings;
 pub mod form;
 pub mod geometry;
 pub mod handed_in;
+pub mod late;
 pub mod limits;
 pub mod names;
 pub mod together;
@@ -13,7 +14,12 @@ pub mod together;
 use crate::sheet::{Command, Track, Wall};
 
 pub fn track(id: u16, x: u16, y: u16, vx: i8, vy: i8) -> Command {
-    Command::Track(Track { id, x, y, vx, vy })
+    Command::Track(Track { id, x, y, vx, vy, start_time: 0 })
+}
+
+/// By 03, whatever the start time.
+pub fn late(id: u16, x: u16, y: u16, vx: i8, vy: i8, start_time: u16) -> Command {
+    Command::LateTrack(Track { id, x, y, vx, vy, start_time })
 }
 
 pub fn wall(id: u16, ax: u16, ay: u16, bx: u16, by: u16) -> Command {
@@ -35,6 +41,11 @@ pub fn walls(count: u16) -> Vec<Command> {
 
 /// Every chosen sheet in bytes.
 pub fn all() -> Vec<Vec<u8>> {
+    [without_start_times(), late::sheets()].concat()
+}
+
+/// Those that are not about 03.
+pub fn without_start_times() -> Vec<Vec<u8>> {
     let document = document::sheets().into_iter().map(|(_, sheet)| sheet);
     document
         .chain(form::sheets())

@@ -110,7 +110,7 @@ fn at_two_commands() -> Vec<Vec<u8>> {
     for fault in faults {
         let bytes = listing([&before[..], &[fault]].concat());
         sheets.push([&bytes[..], &[9]].concat());
-        sheets.push(unended(bytes.clone(), &[3]));
+        sheets.push(unended(bytes.clone(), &[4]));
         sheets.push(unended(bytes, &[]));
     }
     sheets

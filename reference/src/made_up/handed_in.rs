@@ -1,6 +1,6 @@
 //! Made-up records handed in: those of made-up sheets, sometimes with other counts.
 
-use super::{accepted, doubtful, nearly_accepted, provoked};
+use super::{accepted, doubtful, late, nearly_accepted, provoked};
 use crate::handed_in::HandedIn;
 use crate::rng::Rng;
 use crate::sheet::{whole_commands, Records};
@@ -17,8 +17,22 @@ fn count(rng: &mut Rng, listed: usize) -> u64 {
     }
 }
 
+/// What each of these makes is whole commands.
+const MAKERS: [fn(&mut Rng) -> Vec<u8>; 5] = [accepted, accepted, nearly_accepted, doubtful, provoked];
+const LATE_MAKERS: [fn(&mut Rng) -> Vec<u8>; 5] =
+    [late::accepted, late::opening, late::nearly_accepted, late::doubtful, late::provoked];
+
 pub fn handed_in(rng: &mut Rng) -> HandedIn {
-    let make = rng.pick(&[accepted, accepted, nearly_accepted, doubtful, provoked]);
+    made_by(rng, &MAKERS)
+}
+
+/// With start times.
+pub fn handed_in_late(rng: &mut Rng) -> HandedIn {
+    made_by(rng, &LATE_MAKERS)
+}
+
+fn made_by(rng: &mut Rng, makers: &[fn(&mut Rng) -> Vec<u8>]) -> HandedIn {
+    let make = rng.pick(makers);
     let commands = whole_commands(&make(rng)).expect("a sheet of whole commands");
     let listed = Records::of(&commands);
     let ntracks = count(rng, listed.tracks.len());
@@ -28,5 +42,7 @@ pub fn handed_in(rng: &mut Rng) -> HandedIn {
 
 pub fn all(seed: u64) -> Vec<HandedIn> {
     let mut rng = Rng::new(seed);
-    (0..1200).map(|_| handed_in(&mut rng)).collect()
+    let mut all: Vec<HandedIn> = (0..1200).map(|_| handed_in(&mut rng)).collect();
+    all.extend((0..400).map(|_| handed_in_late(&mut rng)));
+    all
 }

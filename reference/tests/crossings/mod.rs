@@ -13,15 +13,16 @@ pub fn cell_at(track: &Track, time: Fraction, figure: u64) -> Cell {
 
 /// The start, the end and the crossings. Between two neighbours the tip stays in one cell.
 fn crossing_times(track: &Track, end: Fraction, figure: u64) -> Vec<Fraction> {
-    let mut times = vec![Fraction::ZERO, end];
+    let opening = Fraction::whole(track.start_time);
+    let mut times = vec![opening, end];
     for line in (0..=4096).step_by(side(figure) as usize) {
         for (start, speed) in [(track.x, track.vx), (track.y, track.vy)] {
             if speed != 0 {
-                times.push(Fraction::new(line - i128::from(start), speed));
+                times.push(opening + Fraction::new(line - i128::from(start), speed));
             }
         }
     }
-    times.retain(|time| Fraction::ZERO <= *time && *time <= end);
+    times.retain(|time| opening <= *time && *time <= end);
     times.sort();
     times
 }
