@@ -1,5 +1,5 @@
-//! The ids of a picture: each beside its track's start or its wall's middle, clear of lines, marks
-//! and other ids; nowhere, if there is no such place. In hundredths of a pixel.
+//! The ids of a picture: each beside its track's start, with a late start's time, or beside its wall's middle, clear of lines,
+//! marks and other ids; nowhere, if there is no such place. In hundredths of a pixel.
 
 use crate::decimals::Decimals;
 use crate::trace::Trace;
@@ -22,12 +22,20 @@ pub fn draw(walls: &[Wall], traces: &[Trace], view: &View) -> String {
     let mut text = format!("<g text-anchor=\"middle\" font-size=\"{}\">\n", FONT / 100);
     for Trace { track, .. } in traces {
         let start = in_64ths(track.x, track.y);
-        text += &drawing.label(start, &beside(track), &track.id.to_string());
+        text += &drawing.label(start, &beside(track), &words(track));
     }
     for wall in walls {
         text += &drawing.label(middle(wall), &ASLANT, &format!("w{}", wall.id));
     }
     text + "</g>\n"
+}
+
+/// The id, and the start time if that is not 0.
+fn words(track: &Track) -> String {
+    match track.start_time {
+        0 => track.id.to_string(),
+        time => format!("{} from {time}", track.id),
+    }
 }
 
 /// The ways across and down from a wall's middle.
@@ -56,10 +64,6 @@ struct Area {
 }
 
 impl Area {
-    fn at((x, y): Point) -> Area {
-        Area { left: x, top: y, right: x, bottom: y }
-    }
-
     fn around((x, y): Point, wide: i64, high: i64) -> Area {
         Area { left: x - wide / 2, top: y - high / 2, right: x + wide / 2, bottom: y + high / 2 }
     }
@@ -98,11 +102,12 @@ impl<'a> Drawing<'a> {
         for wall in walls {
             drawing.line(in_64ths(wall.ax, wall.ay), in_64ths(wall.bx, wall.by));
         }
-        for Trace { track, row } in traces {
-            let end = (row.x.into(), row.y.into());
-            drawing.line(in_64ths(track.x, track.y), end);
+        for trace in traces {
+            let (start, end) = (in_64ths(trace.track.x, trace.track.y), (trace.row.x.into(), trace.row.y.into()));
+            drawing.line(start, end);
             drawing.areas.push(Area::around(drawing.pixels(end), MARK, MARK));
-            drawing.areas.push(Area::at(drawing.pixels(in_64ths(track.x, track.y))));
+            let mark = if trace.is_late() { MARK } else { 0 };
+            drawing.areas.push(Area::around(drawing.pixels(start), mark, mark));
         }
         let [left, bottom, right, top] = view.sheet();
         for (a, b) in [((left, bottom), (right, top)), ((right, top), (left, bottom))] {

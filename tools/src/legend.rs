@@ -19,47 +19,63 @@ const KINDS: [&str; 4] =
 
 /// The distance of two lines in pixels.
 const LINE: usize = 20;
-/// The lines before those of a cell listing.
-const BEFORE: usize = 9;
 
-/// The height in pixels with the lines of a cell listing; without one the least height of a picture is enough.
-pub fn height(listed: &[String]) -> usize {
-    if listed.is_empty() {
-        0
-    } else {
-        LINE * (BEFORE + listed.len() + 1)
-    }
-}
+/// The legend's lines.
+pub struct Legend(Vec<String>);
 
-/// The legend, its left side at x pixels; `listed` are the lines of a cell listing.
-pub fn draw(x: &str, shaded: Option<u64>, listed: &[String]) -> String {
-    let mut text = format!("<g transform=\"translate({x} 0)\">\n");
-    for (index, (colour, words)) in COLOURS.iter().zip(KINDS).enumerate() {
-        let mark = format!("<circle cx=\"17\" cy=\"0\" r=\"4\" fill=\"{colour}\"/>");
-        text += &entry(index, &mark, words);
+impl Legend {
+    /// For a grid of the figure whose cells are shaded, for late starts, and for a cell listing's lines, where there are any.
+    pub fn new(shaded: Option<u64>, late: bool, listed: &[String]) -> Legend {
+        let kinds = COLOURS.iter().zip(KINDS);
+        let mut lines: Vec<String> = kinds.map(|(colour, words)| entry(&end(colour), words)).collect();
+        lines.push(entry(&started(), "trace, id at its start"));
+        if late {
+            lines.push(entry(&hollow(), "late start, id and time"));
+        }
+        lines.push(entry(&line("#000", 3), "wall, id after w"));
+        lines.push(entry(&dashed(), "edge of the sheet"));
+        lines.push(entry(&area(OUTSIDE, OUTSIDE), "outside the sheet"));
+        if let Some(figure) = shaded {
+            lines.push(entry(&area(TOUCHED, GRID), &format!("cell touched, g = {figure}")));
+        }
+        for (index, words) in listed.iter().enumerate() {
+            let mark = if index == 0 { area(LISTED, GRID) } else { ring() };
+            lines.push(entry(&mark, words));
+        }
+        Legend(lines)
     }
-    text += &entry(4, &started(), "trace, id at its start");
-    text += &entry(5, &line("#000", 3), "wall, id after w");
-    text += &entry(6, &dashed(), "edge of the sheet");
-    text += &entry(7, &area(OUTSIDE, OUTSIDE), "outside the sheet");
-    if let Some(figure) = shaded {
-        text += &entry(8, &area(TOUCHED, GRID), &format!("cell touched, g = {figure}"));
+
+    /// In pixels.
+    pub fn height(&self) -> usize {
+        LINE * (self.0.len() + 1)
     }
-    for (index, words) in listed.iter().enumerate() {
-        let mark = if index == 0 { area(LISTED, GRID) } else { ring() };
-        text += &entry(BEFORE + index, &mark, words);
+
+    /// The legend, its left side at x pixels.
+    pub fn draw(&self, x: &str) -> String {
+        let place = |(index, entry): (usize, &String)| {
+            let y = LINE * (1 + index);
+            format!("<g transform=\"translate(0 {y})\">{entry}</g>\n")
+        };
+        let lines: String = self.0.iter().enumerate().map(place).collect();
+        format!("<g transform=\"translate({x} 0)\">\n{lines}</g>\n")
     }
-    text + "</g>\n"
 }
 
 /// One line of the legend: a mark and its meaning.
-fn entry(index: usize, mark: &str, words: &str) -> String {
-    let y = LINE * (1 + index);
-    format!("<g transform=\"translate(0 {y})\">{mark}<text x=\"34\" y=\"4\">{words}</text></g>\n")
+fn entry(mark: &str, words: &str) -> String {
+    format!("{mark}<text x=\"34\" y=\"4\">{words}</text>")
+}
+
+fn end(colour: &str) -> String {
+    format!("<circle cx=\"17\" cy=\"0\" r=\"4\" fill=\"{colour}\"/>")
 }
 
 fn started() -> String {
     line("#555", 1) + "<circle cx=\"8\" cy=\"0\" r=\"2\" fill=\"#555\"/>"
+}
+
+fn hollow() -> String {
+    line("#555", 1) + "<circle cx=\"10\" cy=\"0\" r=\"5\" fill=\"#fff\" stroke=\"#555\" stroke-width=\"1.2\"/>"
 }
 
 fn area(fill: &str, border: &str) -> String {

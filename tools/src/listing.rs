@@ -1,7 +1,9 @@
-//! The listing: a command a line, `#` before a comment. The end command has no line.
+//! The listing: a command a line, `#` before a comment. The end command has no line. A track is one by 03 where it has a
+//! start, be it 0, else one by 01.
 //!
 //! ```text
 //! track 1 at 100 100 speed 10 0
+//! track 2 at 200 50 speed 0 10 start 30
 //! wall 1 from 250 50 to 350 50
 //! ```
 
@@ -24,13 +26,11 @@ fn parse_line(line: &[u8]) -> Result<Option<Command>, String> {
     let words: Vec<&str> = code.split_whitespace().collect();
     match words[..] {
         [] => Ok(None),
-        ["track", id, "at", x, y, "speed", vx, vy] => Ok(Some(Command::Track(Track {
-            id: unsigned("id", id)?,
-            x: unsigned("x", x)?,
-            y: unsigned("y", y)?,
-            vx: signed("vx", vx)?,
-            vy: signed("vy", vy)?,
-        }))),
+        ["track", id, "at", x, y, "speed", vx, vy] => Ok(Some(Command::Track(track(id, [x, y], [vx, vy])?))),
+        ["track", id, "at", x, y, "speed", vx, vy, "start", start] => {
+            let track = track(id, [x, y], [vx, vy])?;
+            Ok(Some(Command::LateTrack(Track { start_time: unsigned("start", start)?, ..track })))
+        }
         ["wall", id, "from", ax, ay, "to", bx, by] => Ok(Some(Command::Wall(Wall {
             id: unsigned("id", id)?,
             ax: unsigned("ax", ax)?,
@@ -38,10 +38,21 @@ fn parse_line(line: &[u8]) -> Result<Option<Command>, String> {
             bx: unsigned("bx", bx)?,
             by: unsigned("by", by)?,
         }))),
-        ["track", ..] => Err("a track is written: track ID at X Y speed VX VY".into()),
+        ["track", ..] => Err("a track is written: track ID at X Y speed VX VY [start TIME]".into()),
         ["wall", ..] => Err("a wall is written: wall ID from AX AY to BX BY".into()),
         [first, ..] => Err(format!("'{first}' is neither track nor wall")),
     }
+}
+
+fn track(id: &str, [x, y]: [&str; 2], [vx, vy]: [&str; 2]) -> Result<Track, String> {
+    Ok(Track {
+        id: unsigned("id", id)?,
+        x: unsigned("x", x)?,
+        y: unsigned("y", y)?,
+        vx: signed("vx", vx)?,
+        vy: signed("vy", vy)?,
+        start_time: 0,
+    })
 }
 
 /// A number of 16 bits.
@@ -72,11 +83,14 @@ pub fn print(commands: &[Command]) -> String {
 fn print_line(command: &Command) -> String {
     match command {
         Command::End => String::new(),
-        Command::Track(Track { id, x, y, vx, vy }) => {
-            format!("track {id} at {x} {y} speed {vx} {vy}\n")
-        }
+        Command::Track(track) => format!("{}\n", print_track(track)),
+        Command::LateTrack(track) => format!("{} start {}\n", print_track(track), track.start_time),
         Command::Wall(Wall { id, ax, ay, bx, by }) => {
             format!("wall {id} from {ax} {ay} to {bx} {by}\n")
         }
     }
+}
+
+fn print_track(Track { id, x, y, vx, vy, .. }: &Track) -> String {
+    format!("track {id} at {x} {y} speed {vx} {vy}")
 }

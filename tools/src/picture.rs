@@ -3,7 +3,7 @@
 
 use crate::decimals::Decimals;
 use crate::ids;
-use crate::legend;
+use crate::legend::{self, Legend};
 use crate::listed::Listed;
 use crate::trace::Trace;
 use crate::view::{in_64ths, View};
@@ -43,8 +43,9 @@ pub fn draw(walls: &[Wall], traces: &[Trace], options: Options) -> String {
     let (width, height) = view.size();
     let (wide, high) = (width.pixels(), height.pixels());
     let lines = listed.as_ref().map_or_else(Vec::new, Listed::lines);
+    let legend = Legend::new(options.grid, traces.iter().any(Trace::is_late), &lines);
     let total = (width + Fraction::whole(legend::WIDTH)).pixels();
-    let total_high = height.max(Fraction::whole(legend::height(&lines) as i128)).pixels();
+    let total_high = height.max(Fraction::whole(legend.height() as i128)).pixels();
     let mut svg = format!(
         "<svg xmlns=\"http://www.w3.org/2000/svg\" width=\"{total}\" height=\"{total_high}\" \
          font-family=\"sans-serif\" font-size=\"11\">\n\
@@ -65,7 +66,7 @@ pub fn draw(walls: &[Wall], traces: &[Trace], options: Options) -> String {
     svg += &format!("<rect width=\"{wide}\" height=\"{high}\" fill=\"none\" stroke=\"#ccc\"/>\n");
     svg += &ids::draw(walls, traces, &view);
     svg += &notes(&options.notes, &view);
-    svg += &legend::draw(&wide, options.grid, &lines);
+    svg += &legend.draw(&wide);
     svg + "</svg>\n"
 }
 
@@ -150,14 +151,14 @@ fn trace_lines(traces: &[Trace], view: &View) -> String {
     text + "</g>\n"
 }
 
-/// The starts, and the end points coloured by kind.
+/// The starts, late ones hollow, and the end points coloured by kind.
 fn marks(traces: &[Trace], view: &View) -> String {
     let mut text = "<g fill=\"#555\">\n".to_string();
-    for trace in traces {
-        let (x, y) = (trace.track.x, trace.track.y);
-        text += &format!("<circle cx=\"{x}\" cy=\"{y}\" r=\"{}\"/>\n", view.tenths(20));
+    for Trace { track, .. } in traces.iter().filter(|trace| !trace.is_late()) {
+        text += &format!("<circle cx=\"{}\" cy=\"{}\" r=\"{}\"/>\n", track.x, track.y, view.tenths(20));
     }
     text += "</g>\n";
+    text += &late_starts(traces, view);
     for trace in traces {
         let (x, y) = trace.end();
         text += &format!(
@@ -170,6 +171,27 @@ fn marks(traces: &[Trace], view: &View) -> String {
         );
     }
     text
+}
+
+/// A hollow dot at each late start, wide enough for the mark of a tip that ends as it opens; a pointer resting on it shows
+/// the time.
+fn late_starts(traces: &[Trace], view: &View) -> String {
+    let late: Vec<_> = traces.iter().filter(|trace| trace.is_late()).collect();
+    if late.is_empty() {
+        return String::new();
+    }
+    let mut text = format!("<g fill=\"#fff\" stroke=\"#555\" stroke-width=\"{}\">\n", view.tenths(12));
+    for Trace { track, .. } in late {
+        text += &format!(
+            "<circle cx=\"{}\" cy=\"{}\" r=\"{}\"><title>track {} starts at {}</title></circle>\n",
+            track.x,
+            track.y,
+            view.tenths(50),
+            track.id,
+            track.start_time
+        );
+    }
+    text + "</g>\n"
 }
 
 /// An ending in words, shown where the pointer rests on its mark.

@@ -18,15 +18,21 @@ impl Trace {
         self.track.at(self.row.time)
     }
 
+    /// Whether the tip opens after time 0.
+    pub fn is_late(&self) -> bool {
+        self.track.start_time > 0
+    }
+
     /// The cells with a point of the trace, for illustration: their count is the program's.
     pub fn cells(&self, figure: u64) -> Vec<Cell> {
         cells_of(&self.track, self.row.time, figure)
     }
 
-    /// Whether the row's end point is the rounded exact end.
+    /// Whether the row's time is not before the start and its end point is the rounded exact end.
     fn fits(&self) -> bool {
         let (x, y) = self.end();
-        (x.in_64ths(), y.in_64ths()) == (self.row.x.into(), self.row.y.into())
+        let not_before = self.row.time >= Fraction::whole(self.track.start_time);
+        not_before && (x.in_64ths(), y.in_64ths()) == (self.row.x.into(), self.row.y.into())
     }
 }
 

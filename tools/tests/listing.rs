@@ -29,8 +29,18 @@ fn document_lines() {
 }
 
 #[test]
+fn a_start_makes_a_track_by_03() {
+    let text = b"track 1 at 100 100 speed 10 0 start 30\ntrack 2 at 100 200 speed 10 0 start 0\n";
+    let first = [3, 1, 0, 100, 0, 100, 0, 10, 0, 30, 0];
+    let second = [3, 2, 0, 100, 0, 200, 0, 10, 0, 0, 0];
+    let sheet = [&first[..], &second[..], &[0]].concat();
+    assert_eq!(run(TEXT, &["to-sheet"], text).unwrap(), sheet);
+    assert_eq!(run(TEXT, &["to-text"], &sheet).unwrap(), text);
+}
+
+#[test]
 fn widths_are_the_only_limits() {
-    let text = "track 65535 at 5000 65535 speed -128 127\ntrack 65535 at 5000 65535 speed 0 0\n";
+    let text = "track 65535 at 5000 65535 speed -128 127 start 65535\ntrack 65535 at 5000 65535 speed 0 0\n";
     let commands = listing::parse(text.as_bytes()).unwrap();
     let back = sheet::from_bytes(&bytes(commands)).unwrap();
     assert_eq!(listing::print(&back), text);
@@ -46,7 +56,11 @@ fn wrong_lines_are_named() {
         ("# a\n\nwall 1 from 1 2 to 3 99999999999999999999", "line 3: by: 99999999999999999999 is not in 0 to 65535"),
         ("track 1 at 0x1 0 speed 1 1", "line 1: x: '0x1' is not a decimal number"),
         ("track 1 at +1 0 speed 1 1", "line 1: x: '+1' is not a decimal number"),
-        ("track 1 at 0 0 speed 1", "line 1: a track is written: track ID at X Y speed VX VY"),
+        ("track 1 at 0 0 speed 1 1 start 65536", "line 1: start: 65536 is not in 0 to 65535"),
+        ("track 1 at 0 0 speed 1 1 start -1", "line 1: start: -1 is not in 0 to 65535"),
+        ("track 1 at 0 0 speed 1", "line 1: a track is written: track ID at X Y speed VX VY [start TIME]"),
+        ("track 1 at 0 0 speed 1 1 start", "line 1: a track is written: track ID at X Y speed VX VY [start TIME]"),
+        ("track 1 at 0 0 speed 1 1 from 3", "line 1: a track is written: track ID at X Y speed VX VY [start TIME]"),
         ("wall 1 at 0 0 to 1 1", "line 1: a wall is written: wall ID from AX AY to BX BY"),
         ("edge 1", "line 1: 'edge' is neither track nor wall"),
     ];
@@ -60,9 +74,10 @@ fn wrong_lines_are_named() {
 #[test]
 fn wrong_places_are_named() {
     let track = [1, 1, 0, 100, 0, 100, 0, 10, 0];
-    let cases: [(&[u8], &str); 5] = [
+    let cases: [(&[u8], &str); 6] = [
         (&[], "place 9: no end command 00"),
-        (&[3], "place 9: byte 03 is no command"),
+        (&[4], "place 9: byte 04 is no command"),
+        (&[3, 0, 0, 0, 0, 0, 0, 0, 0, 0], "place 9: operands cut short"),
         (&[2, 0, 0, 0, 0, 0, 0, 0, 0, 0], "place 9: operands cut short"),
         (&[1, 0, 0, 0, 0, 0, 0, 0], "place 9: operands cut short"),
         (&[0, 0], "place 10: bytes after the end command"),

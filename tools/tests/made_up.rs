@@ -1,16 +1,19 @@
 //! Made-up sheets with their rolls from the reference implementation.
 
 use reference::cells::count;
-use reference::made_up::accepted;
+use reference::made_up::{accepted, late};
 use reference::rng::Rng;
 use reference::roll::{roll as rows_of, Row};
 use reference::sheet::{listing as bytes_of, read, Records};
 use sheet_tools::{listing, picture, roll, sheet, trace};
 
-/// Accepted sheets from a seed.
+/// Accepted sheets from a seed, those after the first 500 with start times.
 fn sheets() -> impl Iterator<Item = Vec<u8>> {
     let mut rng = Rng::new(1);
-    (0..500).map(move |_| accepted(&mut rng))
+    (0..1000).map(move |number| match number {
+        0..500 => accepted(&mut rng),
+        _ => late::MAKERS[number % late::MAKERS.len()](&mut rng),
+    })
 }
 
 /// A roll as the program prints it.
@@ -36,6 +39,8 @@ fn every_roll_is_read_and_drawn() {
         assert_eq!(roll.rows, rows);
         let traces = trace::traces(&records.tracks, &roll).unwrap();
         let svg = picture::draw(&records.walls, &traces, picture::Options::default());
-        assert_eq!(svg.matches("<title>").count(), traces.len());
+        let late = records.tracks.iter().filter(|track| track.start_time > 0).count();
+        assert_eq!(svg.matches(", time ").count(), traces.len());
+        assert_eq!(svg.matches(" starts at ").count(), late);
     }
 }

@@ -49,6 +49,19 @@ fn ends_are_exact() {
 }
 
 #[test]
+fn late_starts_are_hollow_with_their_times() {
+    let svg = picture("late", &[]).unwrap();
+    // 1 ends as it opens: the mark of its end stands in the hollow dot.
+    let hollow = svg.split("<g fill=\"#fff\" stroke=\"#555\"").nth(1).unwrap().split("</g>").next().unwrap();
+    assert!(hollow.contains("cx=\"0\" cy=\"100\"") && hollow.contains("<title>track 1 starts at 20</title>"));
+    assert!(hollow.contains("cx=\"200\" cy=\"150\"") && hollow.contains("<title>track 4 starts at 5</title>"));
+    assert_eq!(hollow.matches("<circle").count(), 2);
+    assert!(svg.contains(">1 from 20</text>") && svg.contains(">4 from 5</text>") && svg.contains(">2</text>"));
+    assert!(svg.contains("track 1 ends at the edge, time 20/1") && svg.contains(">late start, id and time</text>"));
+    assert!(!picture("A", &[]).unwrap().contains("late start"));
+}
+
+#[test]
 fn shaded_cells_are_those_entered() {
     for name in NAMES {
         let commands = sheet::from_bytes(&example(&format!("{name}.sheet"))).unwrap();
@@ -175,7 +188,7 @@ fn ids_stand_apart() {
         ids.len()
     });
     // There is no room for half of D's ids with two digits, nor for F's wall between trace 1 and the edge.
-    assert_eq!(found, [2, 2, 2, 36, 4, 2, 2, 2, 2, 1, 1, 2, 0, 4, 6]);
+    assert_eq!(found, [2, 2, 2, 36, 4, 2, 2, 2, 2, 1, 1, 2, 0, 4, 6, 6, 7, 4]);
 }
 
 #[test]

@@ -5,7 +5,9 @@ use std::path::PathBuf;
 use std::process::{Command, Stdio};
 
 /// The examples that are accepted.
-pub const NAMES: [&str; 15] = ["A", "B", "C", "D", "E", "F", "G", "H1", "H2", "I1", "I2", "J", "K", "corner", "cell"];
+pub const NAMES: [&str; 18] = [
+    "A", "B", "C", "D", "E", "F", "G", "H1", "H2", "I1", "I2", "J", "K", "corner", "cell", "opening", "behind", "late",
+];
 
 /// The path of a file in the repository.
 pub fn path(file: &str) -> String {
