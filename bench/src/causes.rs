@@ -1,4 +1,5 @@
-//! What both runs share, as their proved forms do: times, causes, contacts and rows, in machine words.
+//! What both runs share, as their proved forms do: times, causes, contacts and rows, in machine words. Contacts are found by ages, the
+//! times since a tip's own start; causes have times of the sheet.
 
 use reference::sheet::{Track, Wall};
 use std::cmp::Ordering;
@@ -21,6 +22,11 @@ impl Time {
             Ordering::Less if n <= 0 => Some(Time { num: -n, den: -d }),
             _ => None,
         }
+    }
+
+    /// The time of the sheet, where this is an age of the tip.
+    fn of(self, a: &Track) -> Time {
+        Time { num: self.num + i64::from(a.start_time) * self.den, den: self.den }
     }
 
     pub fn order(self, other: Time) -> Ordering {
@@ -70,7 +76,7 @@ fn cross(ux: i64, uy: i64, vx: i64, vy: i64) -> i64 {
     ux * vy - uy * vx
 }
 
-/// When a is at the point (dx, dy) from its start.
+/// The age of a at the point (dx, dy) from its start.
 fn reach(a: &Track, dx: i64, dy: i64) -> Option<Time> {
     let (vx, vy) = (i64::from(a.vx), i64::from(a.vy));
     if cross(dx, dy, vx, vy) != 0 {
@@ -82,16 +88,18 @@ fn reach(a: &Track, dx: i64, dy: i64) -> Option<Time> {
     }
 }
 
+/// The ages of a and b at a point of both lines; on one line, at the start of the one in front.
 fn contact(a: &Track, b: &Track) -> Option<(Time, Time)> {
     let (vx, vy, wx, wy) = (i64::from(a.vx), i64::from(a.vy), i64::from(b.vx), i64::from(b.vy));
     let (dx, dy) = (gap(a.x, b.x), gap(a.y, b.y));
     let turn = cross(vx, vy, wx, wy);
     if turn == 0 {
-        return reach(a, dx, dy).map(|t| (t, ZERO));
+        let ahead = reach(a, dx, dy).map(|t| (t, ZERO));
+        return ahead.or_else(|| reach(b, -dx, -dy).map(|s| (ZERO, s)));
     }
     let t = Time::quotient(cross(dx, dy, wx, wy), turn)?;
     let s = Time::quotient(cross(dx, dy, vx, vy), turn)?;
-    s.order(t).is_le().then_some((t, s))
+    Some((t, s))
 }
 
 fn wall_time(a: &Track, w: &Wall) -> Option<Time> {
@@ -118,17 +126,19 @@ fn edge_time(a: &Track) -> Time {
 
 /// The edge, which ends every tip at last.
 pub fn edge(a: &Track) -> Cause {
-    Cause { at: edge_time(a), class: 2, id: 0, who: 0, reached: ZERO }
+    Cause { at: edge_time(a).of(a), class: 2, id: 0, who: 0, reached: ZERO }
 }
 
 /// Tip a at wall number `who`.
 pub fn at_wall(a: &Track, who: usize, w: &Wall) -> Option<Cause> {
-    wall_time(a, w).map(|at| Cause { at, class: 1, id: w.id, who, reached: ZERO })
+    wall_time(a, w).map(|age| Cause { at: age.of(a), class: 1, id: w.id, who, reached: ZERO })
 }
 
 /// Tip a at a point of the line of tip b, number `who`, which b reaches no later.
 pub fn at_track(a: &Track, who: usize, b: &Track) -> Option<Cause> {
-    contact(a, b).map(|(at, reached)| Cause { at, class: 0, id: b.id, who, reached })
+    let (own, other) = contact(a, b)?;
+    let (at, reached) = (own.of(a), other.of(b));
+    reached.order(at).is_le().then_some(Cause { at, class: 0, id: b.id, who, reached })
 }
 
 fn gcd(a: u64, b: u64) -> u64 {
@@ -143,8 +153,9 @@ pub fn write_row(out: &mut [u8], a: &Track, c: &Cause) {
     let (num, den) = (c.at.num as u64, c.at.den as u64);
     let g = gcd(num, den);
     let (num, den) = (num / g, den / g);
+    let age = num as i64 - i64::from(a.start_time) * den as i64;
     let place = |x: u16, v: i8| {
-        let p = i64::from(x) * den as i64 + i64::from(v) * num as i64;
+        let p = i64::from(x) * den as i64 + i64::from(v) * age;
         (64 * p / den as i64) as u32
     };
     let kind = match c.class {

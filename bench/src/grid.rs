@@ -23,7 +23,7 @@ struct Cell {
     row: i64,
 }
 
-/// From when on a border has been passed: with num / den itself, or just after it. 1 / 0 is never.
+/// From which age on a border has been passed: with num / den itself, or just after it. 1 / 0 is never.
 #[derive(Clone, Copy)]
 struct Onset {
     num: i64,
@@ -56,7 +56,7 @@ fn onward(v: i8, k: i64) -> i64 {
     }
 }
 
-/// The next cell of tip a after `cell`, and when it is entered.
+/// The next cell of tip a after `cell`, and the age at which it is entered.
 fn next_entry(a: &Track, side: i64, cell: Cell) -> (Onset, Cell) {
     let (out_x, out_y) = (exit(a.x, a.vx, side, cell.column), exit(a.y, a.vy, side, cell.row));
     let (column, row) = (onward(a.vx, cell.column), onward(a.vy, cell.row));
@@ -113,8 +113,9 @@ impl<'a> Run<'a> {
 
     /// The sooner of the next cell entry and the best cause.
     fn push(&mut self, i: usize) {
-        let (when, _) = next_entry(self.track(i), self.side, self.cell[i]);
-        let entry = Key { num: when.num, den: when.den, late: when.late, id: self.track(i).id };
+        let Track { id, start_time, .. } = *self.track(i);
+        let (Onset { num, den, late }, _) = next_entry(self.track(i), self.side, self.cell[i]);
+        let entry = Key { num: num + i64::from(start_time) * den, den, late, id };
         let reached = self.reached_key(i);
         let key = if entry.leaves_before(&reached) { entry } else { reached };
         self.queue.push(i, key);
@@ -197,6 +198,7 @@ impl<'a> Run<'a> {
         self.push(i);
     }
 
+    /// All tips stand in the cells of their starts from the first on, also those that open later.
     fn start(&mut self) {
         for i in 0..self.records.tracks.len() {
             let a = self.track(i);

@@ -70,11 +70,11 @@ impl Timed {
 
     /// The sheet's side in mean lengths of its traces.
     pub fn mean_lengths_in_a_side(&self) -> f64 {
-        let length = |track: &Track, time: f64| time * f64::from(track.vx).hypot(track.vy.into());
+        let length = |track: &Track, age: f64| age * f64::from(track.vx).hypot(track.vy.into());
         let rows = roll(&self.records);
         let lengths = ends(&self.records, &rows).map(|(track, row)| {
             let (num, den) = row.time_in_lowest_terms();
-            length(track, num as f64 / den as f64)
+            length(track, num as f64 / den as f64 - f64::from(track.start_time))
         });
         4096.0 * rows.len() as f64 / lengths.sum::<f64>()
     }
@@ -96,7 +96,7 @@ fn fill(tracks: usize, walls: usize, mut make: impl FnMut(&mut Rng) -> Command) 
         }
         let command = make(&mut rng);
         let wanted = match command {
-            Command::Track(_) => records.tracks.len() < tracks,
+            Command::Track(_) | Command::LateTrack(_) => records.tracks.len() < tracks,
             Command::Wall(_) => records.walls.len() < walls,
             Command::End => false,
         };
@@ -131,15 +131,26 @@ fn short(tracks: usize, walls: usize) -> Vec<Command> {
     })
 }
 
+/// Random, with start times from 0 to 63, so that many tips open while others run.
+fn late(tracks: usize, walls: usize) -> Vec<Command> {
+    fill(tracks, walls, |rng| {
+        let command = WHOLE.command(rng);
+        let open = |track| Track { start_time: rng.below(64) as u16, ..track }.command();
+        command.as_track().map_or(command, open)
+    })
+}
+
 pub fn on_ground(kind: &'static str, ground: &Ground, tracks: usize, walls: usize) -> Timed {
     Timed::new(kind, fill(tracks, walls, |rng| ground.command(rng)))
 }
 
-/// Random; on cell borders; on a field of 20 × 20 points, which has no room for 256 tracks beside 256 walls; with short traces.
+/// Random; on cell borders; on a field of 20 × 20 points, which has no room for 256 tracks beside 256 walls; with short traces; random
+/// with start times. All but the last start at 0.
 pub fn all() -> Vec<Timed> {
     let grounds = [("random", WHOLE), ("borders", BORDERS), ("snapped", SMALL)];
     let of =
         |(kind, ground): (&'static str, Ground)| SIZES.map(|(tracks, walls)| on_ground(kind, &ground, tracks, walls));
     let short = SIZES.map(|(tracks, walls)| Timed::new("short", short(tracks, walls)));
-    grounds.into_iter().flat_map(of).chain(short).collect()
+    let late = SIZES.map(|(tracks, walls)| Timed::new("late", late(tracks, walls)));
+    grounds.into_iter().flat_map(of).chain(short).chain(late).collect()
 }

@@ -1,7 +1,7 @@
 //! The grid run in Rust compared with the reference implementation: rows, and cells entered, at the six figures.
 
 use reference::cells::{count, FIGURES};
-use reference::made_up::GROUNDS;
+use reference::made_up::{late, GROUNDS};
 use reference::rng::Rng;
 use reference::roll::{roll, roll_bytes};
 use reference::sheet::{commands, listing, read, Records};
@@ -25,6 +25,19 @@ fn check(records: &Records) {
 fn chosen_and_made_up_sheets() {
     let sheets = [chosen::all(), made_up::all(1), made_up::all(5)].concat();
     sheets.iter().filter_map(|sheet| read(sheet).ok()).for_each(|records| check(&records));
+}
+
+#[test]
+fn sheets_with_start_times() {
+    let mut rng = Rng::new(7);
+    for make in late::MAKERS {
+        for _ in 0..1000 {
+            check(&read(&make(&mut rng)).expect("accepted"));
+        }
+    }
+    for _ in 0..6 {
+        check(&read(&late::large(&mut rng)).expect("accepted"));
+    }
 }
 
 #[test]
