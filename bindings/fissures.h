@@ -43,7 +43,7 @@ enum fissure_refusal {
 };
 
 /* Bytes of a row, and where its fields begin: id of 2 bytes, kind 1, partner 2, the time's numerator 8 and denominator 8, x and y in 64ths
- * 4 each; all little-endian (docs/SHEETS.md, 5.6). */
+ * 4 each; all little-endian (docs/SHEETS.md, 5.6). The time is one of the whole sheet, also where the track starts later than at 0. */
 #define FISSURE_ROW 29
 #define FISSURE_ROW_ID 0
 #define FISSURE_ROW_KIND 2
@@ -53,17 +53,17 @@ enum fissure_refusal {
 #define FISSURE_ROW_X 21
 #define FISSURE_ROW_Y 25
 /* Room for the roll of any sheet: 256 rows. For the ids of any cell: 256 of 2 bytes. For the ordered form of any sheet: 256 tracks of
- * 9 bytes, 256 walls of 11 and the end. */
+ * 11 bytes, 256 walls of 11 and the end. */
 #define FISSURE_LONGEST_ROLL 7424
 #define FISSURE_LONGEST_CELL 512
-#define FISSURE_LONGEST_SHEET 5121
+#define FISSURE_LONGEST_SHEET 5633
 /* So many bytes of an input are enough to read: they decide its answer, however long it is (docs/SHEETS.md, 2.10). */
-#define FISSURE_ENOUGH 5132
+#define FISSURE_ENOUGH 5644
 
 /* The verdict on a sheet's bytes; second: 0 if accepted. */
 uint64_t fissure_check(const uint8_t *sheet, size_t length, uint64_t *second);
 
-/* Writes the sheet's ordered form; second: its length. */
+/* Writes the sheet's ordered form; second: its length. A track that starts at 0 is written by 01, also where the sheet lists it by 03. */
 uint64_t fissure_order(const uint8_t *sheet, size_t length, uint8_t *out, size_t room, uint64_t *second);
 
 /* Writes the sheet's roll, by the plain run; second: the number of rows. */
@@ -94,7 +94,8 @@ uint64_t fissure_advance(const uint8_t *sheet, size_t length, uint64_t *session,
 /* Puts the session back: no row shown; second: 0. */
 uint64_t fissure_reset(const uint8_t *sheet, size_t length, uint64_t *session, size_t numbers, uint64_t *second);
 
-/* second: the number of tracks still running, that is of rows not yet shown. The session stays as it came. */
+/* second: the number of tracks still running, those yet to open among them, that is of rows not yet shown. The session stays as it
+ * came. */
 uint64_t fissure_running(const uint8_t *sheet, size_t length, const uint64_t *session, size_t numbers, uint64_t *second);
 
 /* The name of a row's partner, in name lists whose entries are an id of 2 bytes, a length of 1 and that many bytes. Kinds 1 and 2 are

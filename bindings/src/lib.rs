@@ -12,8 +12,8 @@ pub use row::{Row, ROW};
 pub const LONGEST_ROLL: usize = 256 * ROW;
 /// Room for the ids of any cell: 256 of 2 bytes.
 pub const LONGEST_CELL: usize = 256 * 2;
-/// Room for the ordered form of any sheet: 256 tracks, 256 walls and the end.
-pub const LONGEST_SHEET: usize = 256 * 9 + 256 * 11 + 1;
+/// Room for the ordered form of any sheet: 256 tracks with start times, 256 walls and the end.
+pub const LONGEST_SHEET: usize = 256 * 11 + 256 * 11 + 1;
 /// So many bytes of an input are enough to read: they decide its answer, however long it is (SHEETS 2.10).
 /// One command more than the longest sheet has, and a byte behind it.
 pub const ENOUGH: usize = LONGEST_SHEET - 1 + 11 + 1;
@@ -52,7 +52,7 @@ pub fn check(sheet: &[u8]) -> Result<(), Refusal> {
     answer(|second| unsafe { c::fissure_check(sheet.as_ptr(), sheet.len(), second) }).map(|_| ())
 }
 
-/// Writes the sheet's ordered form and gives its length.
+/// Writes the sheet's ordered form and gives its length. A track that starts at 0 is written by 01, also where the sheet lists it by 03.
 pub fn order(sheet: &[u8], out: &mut [u8]) -> Result<usize, Refusal> {
     let (room, out) = (out.len(), out.as_mut_ptr());
     // SAFETY: `sheet` and `out` are slices, `out` and `second` are borrowed mutably.
@@ -149,7 +149,7 @@ impl<'a> Session<'a> {
         self.with_numbers(numbers::reset).map(|_| ())
     }
 
-    /// The number of tracks still running: the rows not yet shown.
+    /// The number of tracks still running, those yet to open among them: the rows not yet shown.
     pub fn running(&self) -> Result<usize, Refusal> {
         numbers::running(self.sheet, &[self.shown])
     }

@@ -33,7 +33,7 @@ impl Refusal {
             Refusal::UNKNOWN_COMMAND => "a byte that is no command",
             Refusal::CUT_SHORT => "operands cut short, or no end command",
             Refusal::AFTER_END => "bytes after the end command",
-            Refusal::COORDINATE => "a coordinate above 4095",
+            Refusal::COORDINATE => "a coordinate or a start time above 4095",
             Refusal::SPEED => "a speed outside -63 to 63, or no speed at all",
             Refusal::EQUAL_ENDS => "a wall whose ends are one point",
             Refusal::TOO_MANY => "the 257th track or wall",

@@ -42,7 +42,7 @@ impl<'a> Row<'a> {
         u16::from_le_bytes(self.field(Row::PARTNER))
     }
 
-    /// Numerator and denominator, in lowest terms.
+    /// Numerator and denominator, in lowest terms. A time of the whole sheet, also where the track starts later than at 0.
     pub fn time(self) -> (u64, u64) {
         (u64::from_le_bytes(self.field(Row::NUM)), u64::from_le_bytes(self.field(Row::DEN)))
     }

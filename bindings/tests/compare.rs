@@ -3,8 +3,8 @@
 
 use fissures::{numbers, Cell, GridRoll, Place, Row, Session, LONGEST_ROLL, ROW};
 use reference::cells::{self, FIGURES};
-use reference::made_up::entering::{entering, Entering};
-use reference::made_up::{self, BORDERS, COARSE, SMALL};
+use reference::made_up::entering::{entering, entering_late, Entering};
+use reference::made_up::{self, late, BORDERS, COARSE, SMALL};
 use reference::names::place_in;
 use reference::refusal::{Refusal, OUTPUT_TOO_SHORT};
 use reference::rng::Rng;
@@ -12,10 +12,10 @@ use reference::roll::{roll, roll_bytes};
 use reference::sheet::{listing, ordered_form, read, Records};
 use std::fmt::Debug;
 
-/// Made-up sheets, and the shortest ones.
+/// Made-up sheets, many of them with start times, and the shortest ones.
 fn sheets(seed: u64) -> Vec<Vec<u8>> {
     let mut sheets = made_up::all(seed);
-    sheets.extend([vec![], vec![0], vec![0, 0], vec![1], vec![2], vec![3]]);
+    sheets.extend([vec![], vec![0], vec![0, 0], vec![1], vec![2], vec![3], vec![4]]);
     sheets
 }
 
@@ -149,8 +149,25 @@ fn cell_listing_of_the_example() {
     assert_eq!([listed(0), listed(1), listed(2)], [vec![4], vec![7, 3, 4, 1], vec![3, 7]]);
 }
 
-/// Crowded sheets: on cell borders, where tips enter two cells at their start, and snapped to a small field.
+/// Chosen sheets with start times, the longest among them, and inputs that go on behind those.
+#[test]
+fn start_times() {
+    for sheet in reference::chosen::late::sheets() {
+        let form = |records: Records| ordered_form(&records.tracks, &records.walls);
+        let expected = read(&sheet).map(form).map(|bytes| (bytes.len(), bytes));
+        compare(&expected, |out| fissures::order(&sheet, out));
+        // What is read of an input is enough.
+        let enough = &sheet[..sheet.len().min(fissures::ENOUGH)];
+        assert_eq!(fissures::check(enough), fissures::check(&sheet));
+        compare(&by_grid(&sheet, 8), |out| fissures::grid(enough, 8, out));
+    }
+}
+
+/// Crowded sheets: on cell borders, where tips enter two cells at their start, and snapped to a small field; with start times.
 fn crowded(rng: &mut Rng) -> Vec<u8> {
+    if rng.one_in(3) {
+        return rng.pick(&late::MAKERS)(rng);
+    }
     let (ground, draws) = rng.pick(&[(BORDERS, 60), (BORDERS, 200), (COARSE, 60), (SMALL, 200)]);
     listing(ground.accepted(rng, draws))
 }
@@ -182,9 +199,11 @@ fn cell_listing_in_two_orders() {
 #[test]
 fn cell_listing_of_tips_that_enter_together() {
     let mut rng = Rng::new(10);
-    for _ in 0..1000 {
-        let Entering { sheet, figure, cell: cells::Cell { column, row } } = entering(&mut rng);
-        compare_orders(&mut rng, &sheet, Cell { figure, column, row });
+    for make in [entering, entering_late] {
+        for _ in 0..1000 {
+            let Entering { sheet, figure, cell: cells::Cell { column, row } } = make(&mut rng);
+            compare_orders(&mut rng, &sheet, Cell { figure, column, row });
+        }
     }
 }
 

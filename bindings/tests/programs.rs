@@ -53,6 +53,10 @@ fn desk_in_c() {
     assert_eq!(at_the_desk("F.sheet"), wall);
     let meeting = "track 1 ended meeting 2 (east)\ntrack 2 ended meeting 1 (north)\n0 still running\n";
     assert_eq!(at_the_desk("B.sheet"), meeting);
+    // After the two rows of time 10 one of the two tracks that are left has yet to open.
+    let late = "track 3 ended meeting 4\ntrack 4 ended meeting 3 (south)\n2 still running\n\
+                track 1 ended at the edge\ntrack 2 ended on the trace of 1 (north)\n0 still running\n";
+    assert_eq!(at_the_desk("late.sheet"), late);
     assert_eq!(at_the_desk("K.sheet"), "0 still running\n");
     assert_eq!(at_the_desk("facing.sheet"), "refused 11 9\n");
 }

@@ -1,11 +1,32 @@
 //! The made-up inputs: mostly small sheets on few lines, where equal times, meetings, wall ends and borders are common.
 
-use reference::made_up::entering::entering;
-use reference::made_up::{self, BORDERS, COARSE, GROUNDS, TINY};
+use reference::made_up::entering::{entering, entering_late};
+use reference::made_up::{self, late, BORDERS, COARSE, GROUNDS, TINY};
 use reference::rng::Rng;
 use reference::sheet::{listing, Command, Records, Track, Wall};
 
 pub fn undamaged(rng: &mut Rng) -> Vec<u8> {
+    if rng.one_in(2) {
+        with_start_times(rng)
+    } else {
+        at_once(rng)
+    }
+}
+
+/// Tips that open later: on traces, on one line with others, together with them, at the edge.
+fn with_start_times(rng: &mut Rng) -> Vec<u8> {
+    match rng.below(20) {
+        0 if rng.one_in(50) => late::large(rng),
+        0..=13 => rng.pick(&late::MAKERS)(rng),
+        14..=16 => entering_late(rng).sheet,
+        17 => late::nearly_accepted(rng),
+        18 => late::doubtful(rng),
+        _ => late::provoked(rng),
+    }
+}
+
+/// All tracks by 01, but for some of the fullest sheets.
+fn at_once(rng: &mut Rng) -> Vec<u8> {
     match rng.below(20) {
         0 if rng.one_in(50) => made_up::large(rng),
         1 if rng.one_in(50) => full(rng),
@@ -46,16 +67,18 @@ fn spoke(rng: &mut Rng, [x, y]: [u16; 2], time: i32) -> Command {
     let time = if rng.one_in(8) { time + 1 } else { time };
     // A start below 0 becomes a coordinate above 4095, which is refused.
     let back = |to: u16, speed: i8| (i32::from(to) - time * i32::from(speed)) as u16;
-    Command::Track(Track { id, x: back(x, vx), y: back(y, vy), vx, vy })
+    Command::Track(Track { id, x: back(x, vx), y: back(y, vy), vx, vy, start_time: 0 })
 }
 
-/// 255 to 257 of each kind, in any order.
+/// 255 to 257 of each kind, in any order, none, some or all of the tracks with start times.
 fn full(rng: &mut Rng) -> Vec<u8> {
+    let late = rng.below(3);
     let any = |rng: &mut Rng, from: usize, count: usize| (from + rng.below(count)) as u16;
     let mut commands: Vec<Command> = Vec::new();
     for id in 0..any(rng, 255, 3) {
         let (y, vx, vy) = (any(rng, 0, 4000), any(rng, 0, 3) as i8 - 1, any(rng, 1, 63) as i8);
-        commands.push(Command::Track(Track { id, x: 15 * id, y, vx, vy }));
+        let start_time = if rng.below(2) < late { any(rng, 1, 100) } else { 0 };
+        commands.push(Track { id, x: 15 * id, y, vx, vy, start_time }.command());
     }
     for id in 0..any(rng, 255, 3) {
         commands.push(Command::Wall(Wall { id, ax: 15 * id, ay: 4000, bx: 15 * id + any(rng, 0, 200), by: 4001 }));
@@ -78,7 +101,7 @@ pub fn damaged(rng: &mut Rng) -> Vec<u8> {
 
 /// Changes, swaps, puts in, takes out or appends bytes, or cuts the end off.
 fn damage(rng: &mut Rng, bytes: &mut Vec<u8>) {
-    let byte = if rng.one_in(2) { rng.below(4) as u8 } else { rng.draw() as u8 };
+    let byte = if rng.one_in(2) { rng.below(5) as u8 } else { rng.draw() as u8 };
     let (place, other) = (rng.below(bytes.len() + 1), rng.below(bytes.len() + 1));
     match rng.below(10) {
         0 => bytes.truncate(place),
