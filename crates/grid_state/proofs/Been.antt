@@ -20,7 +20,7 @@ use Rattle.grid_steps.specs.Steps.{regionOf}
 
 -- a wall that a tip is on in a cell is near the cell
 pub cell-near : {a : Track} {side : ℕ} {k : Cell} {t : Time} {w : Wall} → InCell a side k t → OnWall a t w → Near (regionOf side k) w
-cell-near {a} {side} {k} {t} {w} i o = near-on (regionOf side k) o (i .in-column .low) (rw add-one (i .in-column .high)) (i .in-row .low) (rw add-one (i .in-row .high))
+cell-near {a} {side} {k} {t} {w} i o = let j = i .in-cell in near-on (regionOf side k) (o .on) (j .in-column .low) (rw add-one (j .in-column .high)) (j .in-row .low) (rw add-one (j .in-row .high))
 
 -- a cell in which a tip is before it leaves the one where it stands has been entered
 pub been-in : {a : Track} {L : Time} {side : ℕ} {k m : Cell} {l : List Cell} {t v : Time} → Entered a L side k l → past t ≤ᶜ exit a side k → v ≤ᵗ t → InCell a side m v → m ∈ l

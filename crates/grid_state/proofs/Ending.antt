@@ -24,7 +24,7 @@ use Rattle.rule.specs.EdgeTime.{rim}
 use Rattle.rule.specs.WallTime.{wallTime}
 use Rattle.rule.specs.Selection.{rollOf}
 use Rattle.rule.proofs.Known.{below-le, Seen}
-use Rattle.rule.proofs.OnSheet.{rim-inside, contact-of, contact-hit}
+use Rattle.rule.proofs.OnSheet.{rim-inside, formal-opened, contact-of, contact-hit}
 use Rattle.rule.proofs.Places.{RunsAt, best, turn-seen, grid-seen-at}
 use Rattle.rule.proofs.Selection.{up-one, up-fresh}
 use Rattle.rule.specs.Meanwhile.{Formal, Live, Progress}
@@ -110,7 +110,7 @@ module _ {S : Listing} (acc : Accepted S) {s : ℕ} (some-side : 0 < s) {done : 
 
   tried : (j : ℕ) (w : Wall) (v : Time) → RunsAt noTrack acc done j → w ∈ S .walls → OnWall (tipAt S j) v w → v ≤ᵗ t → Tried s (cellsAt es j) w
   tried j w v m q o h =
-      let (c, i) = placed (tipAt S j) s v some-side (rim-inside acc (on j (m .0)) v (≤ᵗ-trans h (in-sheet j m))) in
+      let (c, i) = placed (tipAt S j) s v some-side (rim-inside acc (on j (m .0)) v (o .opened) (≤ᵗ-trans h (in-sheet j m))) in
       record { cell = c; entered = been-in (pl .at j (run j m) (stay j (m .0))) (behind j (run j m) .1) h i; near = cell-near i o }
 
   struck : (j : ℕ) (w : Wall) (u : Time) → RunsAt noTrack acc done j → w ∈ S .walls → Tried s (cellsAt es j) w → wallTime (tipAt S j) w ≡ when u → Below (cand j) u (by-side w)
@@ -134,7 +134,7 @@ module _ {S : Listing} (acc : Accepted S) {s : ℕ} (some-side : 0 < s) {done : 
       (λ j m. behind j (run j m) .0) seen
 
   pub ending-inside : Inside (tipAt S r) t
-  ending-inside = rim-inside acc (on r (runs .0)) t (in-sheet r (runs .0, lk .ends .running r (runs .0) (runs .1)))
+  ending-inside = rim-inside acc (on r (runs .0)) t (formal-opened acc (on r (runs .0)) (candOf S (tipIn ts r .best) .why) (lk .best r runs .walls .stands .formal)) (in-sheet r (runs .0, lk .ends .running r (runs .0) (runs .1)))
 
   -- ---- its trace
 

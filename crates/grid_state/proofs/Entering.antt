@@ -10,19 +10,20 @@ use lib.Seq.{getD-set-same, getD-set-other}
 use Rattle.cell_members.specs.Members.{CELLS}
 use Rattle.fraction.specs.Time.{Time, _≤ᵗ_, _<ᵗ_}
 use Rattle.fraction.specs.Order.{≤ᵗ-or-<ᵗ}
-use Rattle.fraction.proofs.TimeOrder.{≤ᵗ-trans, <ᵗ→≤ᵗ, ≈ᵗ→≤ᵗ, ≤ᵗ-refl, <ᵗ-≤ᵗ-trans, <ᵗ-irrefl, zero-first}
+use Rattle.fraction.proofs.TimeOrder.{≤ᵗ-trans, <ᵗ→≤ᵗ, ≈ᵗ→≤ᵗ, ≤ᵗ-refl, <ᵗ-≤ᵗ-trans, <ᵗ-irrefl}
 use Rattle.sheet.specs.declared.Track.{Track}
 use Rattle.sheet.specs.Accepted.{Accepted}
 use Rattle.sheet.specs.HandedIn.{noTrack, noWall}
 use Rattle.sheet.specs.Listing.{Listing, _∈_}
 use Rattle.sheet.proofs.Lists.{mem-at}
 use Rattle.rule.specs.declared.Row.{Row}
-use Rattle.rule.specs.Causes.{upTo}
+use Rattle.rule.specs.Motion.{opening}
+use Rattle.rule.specs.Causes.{by-tip, by-side, upTo}
 use Rattle.rule.specs.Contact.{when, hit, contact}
 use Rattle.rule.specs.EdgeTime.{rim}
 use Rattle.rule.specs.WallTime.{wallTime}
 use Rattle.rule.proofs.Known.{below-le}
-use Rattle.rule.proofs.OnSheet.{rim-inside, contact-of, contact-hit, wall-of, wall-hit}
+use Rattle.rule.proofs.OnSheet.{rim-inside, rim-opened, formal-opened, contact-of, contact-hit, wall-of, wall-hit}
 use Rattle.cause.specs.Cause.{tipAt, wallAt, candOf}
 use Rattle.cells.specs.declared.Cell.{Cell}
 use Rattle.cells.specs.Grid.{Figure, side, InCell}
@@ -49,16 +50,19 @@ use Rattle.grid_state.proofs.Queue.{none-out}
 
 -- ---- the first cell
 
-pub first-ahead : (S : Listing) (done : List Row) (a : Track) (s : ℕ) → 0 < s → Ahead S done s a (first a s)
-first-ahead S done a s p =
-    let h : (u : Time) → entry a s (first a s) <ᶜ past u = λ u. past-before (after-mono (zero-first u) (cell-entry (first-in a s p))) in
-    record { of-tips = λ m i d u v e l. h u; of-walls = λ w i u e. h u }
+pub first-ahead : {S : Listing} (acc : Accepted S) (done : List Row) {a : Track} → a ∈ S .tracks → (s : ℕ) → 0 < s → Ahead S done s a (first a s)
+first-ahead {S} acc done {a} on s p =
+    let h : (u : Time) → opening a ≤ᵗ u → entry a s (first a s) <ᶜ past u = λ u o. past-before (after-mono o (cell-entry (first-in a s p))) in
+    record {
+      of-tips = λ m i d u v e l. h u (formal-opened acc on (by-tip (tipAt S m) v) (mem-at noTrack (S .tracks) m i, d, e));
+      of-walls = λ w i u e. h u (formal-opened acc on (by-side (wallAt S w)) (mem-at noWall (S .walls) w i, e));
+    }
 
 -- a cell that is entered on the sheet is in the grid
 pub good-in : {S : Listing} (acc : Accepted S) {g : ℕ} (f : Figure g) {a : Track} → a ∈ S .tracks → {k : Cell} → Good a (rim a) (side g) k → (k .column < g) × (k .row < g)
 good-in acc {g} f {a} m {k} o =
     let p = point-of (sooner-by (λ z. entry a (side g) k <ᶜ z) (exit a (side g) k) (past (rim a)) (o .fresh) (o .soon)) in
-    in-grid f (rim-inside acc m (p .when) (p .by-end)) (p .there)
+    in-grid f (rim-inside acc m (p .when) (p .there .opened) (p .by-end)) (p .there)
 
 -- ---- the next cell: the event of the tip at r is the first of all, and it is a cell entry
 
@@ -101,10 +105,10 @@ module _ {S : Listing} (acc : Accepted S) {g : ℕ} (fig : Figure g) (some-side 
   on-sheet = past-before (after-mono by-rim (before-past soon))
 
   pub next-stepped : Stepped a (rim a) s g k (next a s k)
-  next-stepped = stepped a (rim a) s g some-side (figure-side fig) (stay-rim acc on (≤ᵗ-refl (rim a))) k (now .good) on-sheet
+  next-stepped = stepped a (rim a) s g some-side (figure-side fig) (stay-rim acc on (rim-opened acc on) (≤ᵗ-refl (rim a))) k (now .good) on-sheet
 
   pub next-entered : Entered a (rim a) s (next a s k) (next a s k ∷ cellsAt es r)
-  next-entered = entered-next g some-side (figure-side fig) (stay-rim acc on (≤ᵗ-refl (rim a))) on-sheet now
+  next-entered = entered-next g some-side (figure-side fig) (stay-rim acc on (rim-opened acc on) (≤ᵗ-refl (rim a))) on-sheet now
 
   -- what comes before the entry is known, and so comes no sooner than the tip's cause
   late : (u : Time) → (past u ≤ᶜ exit a s k → t ≤ᵗ u) → entry a s (next a s k) <ᶜ past u
@@ -114,9 +118,9 @@ module _ {S : Listing} (acc : Accepted S) {g : ℕ} (fig : Figure g) (some-side 
       go (inl h) = absurd (<ᵗ-irrefl (<ᵗ-≤ᵗ-trans (between (exit a s k) h soon) (f h)))
       go (inr h) = ≤ᶜ-<ᶜ-trans (next-stepped .since) h
 
-  inside : (u : Time) → past u ≤ᶜ exit a s k → (c : Cell) × InCell a s c u × (c ∈ cellsAt es r)
-  inside u h =
-      let (c, i) = placed a s u some-side (rim-inside acc on u (≤ᵗ-trans (<ᵗ→≤ᵗ (between (exit a s k) h soon)) by-rim)) in
+  inside : (u : Time) → opening a ≤ᵗ u → past u ≤ᶜ exit a s k → (c : Cell) × InCell a s c u × (c ∈ cellsAt es r)
+  inside u o h =
+      let (c, i) = placed a s u some-side (rim-inside acc on u o (≤ᵗ-trans (<ᵗ→≤ᵗ (between (exit a s k) h soon)) by-rim)) in
       (c, i, been-in now h (≤ᵗ-refl u) i)
 
   other-in : (m : ℕ) → m < length (S .tracks) → (u v : Time) (c : Cell) → past u ≤ᶜ exit a s k → v ≤ᵗ u → v ≤ᵗ upTo done u (tipAt S m .id) → InCell (tipAt S m) s c v → c ∈ cellsAt es m
@@ -130,14 +134,14 @@ module _ {S : Listing} (acc : Accepted S) {g : ℕ} (fig : Figure g) (some-side 
 
   of-tip : (m : ℕ) → m < length (S .tracks) → tipAt S m .id ≢ a .id → (u v : Time) → contact a (tipAt S m) ≡ hit u v → v ≤ᵗ upTo done u (tipAt S m .id) → past u ≤ᶜ exit a s k → t ≤ᵗ u
   of-tip m l d u v e y h =
-      let (c, i, x) = inside u h in
       let (o, q) = contact-hit (contact a (tipAt S m)) (contact-of acc on (tipAt S m) (mem-at noTrack (S .tracks) m l) d) e in
+      let (c, i, x) = inside u (o .opened) h in
       below-le (lk .best r runs .at-tips m l (mk .share r m c (runs .0) l (λ z. d (ap (λ (n : ℕ). tipAt S n .id) (sym z))) x (other-in m l u v c h q y (shared o i))) d .beats u v e y)
 
   of-wall : (w : ℕ) → w < length (S .walls) → (u : Time) → wallTime a (wallAt S w) ≡ when u → past u ≤ᶜ exit a s k → t ≤ᵗ u
   of-wall w l u e h =
-      let (c, i, x) = inside u h in
       let o = wall-hit (wallTime a (wallAt S w)) (wall-of acc on (wallAt S w) (mem-at noWall (S .walls) w l)) e in
+      let (c, i, x) = inside u (o .opened) h in
       below-le (lk .best r runs .walls .at-walls w l (record { cell = c; entered = x; near = cell-near i o }) u e)
 
   pub next-ahead : Ahead S done s a (next a s k)

@@ -7,7 +7,7 @@ use Prim.Native.Nat.{ℕ, suc, pred}
 use native.Mathlib.Omega.{arith}
 use lib.ListN.{length, drop, take-append-drop}
 use Rattle.fraction.specs.Time.{Time, _≤ᵗ_}
-use Rattle.fraction.proofs.TimeOrder.{≤ᵗ-trans, ≤ᵗ-<ᵗ-trans, <ᵗ→≤ᵗ, <ᵗ-irrefl, ≈ᵗ→≤ᵗ, at-most}
+use Rattle.fraction.proofs.TimeOrder.{≤ᵗ-refl, ≤ᵗ-trans, ≤ᵗ-<ᵗ-trans, <ᵗ→≤ᵗ, <ᵗ-irrefl, ≈ᵗ→≤ᵗ, at-most}
 use Rattle.sheet.specs.declared.Track.{Track}
 use Rattle.sheet.specs.declared.Wall.{Wall}
 use Rattle.sheet.specs.Accepted.{Accepted}
@@ -22,11 +22,11 @@ use Rattle.rule.specs.Contact.{Quot, when, Contact, hit, contact}
 use Rattle.rule.specs.EdgeTime.{rim}
 use Rattle.rule.specs.WallTime.{wallTime}
 use Rattle.rule.specs.Selection.{rollOf}
-use Rattle.rule.proofs.Consequences.{start-ends, ends-in-time}
+use Rattle.rule.proofs.Consequences.{trace-ends, ends-in-time}
 use Rattle.rule.proofs.Contacts.{Passed, ContactMeans, no-contact, contact-at}
 use Rattle.rule.proofs.Existence.{roll-of}
 use Rattle.rule.proofs.OneRoll.{meets, timeOf-row}
-use Rattle.rule.proofs.OnSheet.{contact-of, wall-of, rim-last}
+use Rattle.rule.proofs.OnSheet.{contact-hit, contact-of, wall-of, rim-last}
 use Rattle.rule.specs.Meanwhile.{Ended, Fresh}
 use Rattle.rule.proofs.Running.{ended?}
 use Rattle.rule.proofs.Selection.{up-all, up-fresh}
@@ -78,13 +78,17 @@ module _ {S : Listing} (acc : Accepted S) {done : List Row} (known : (d : Row) �
     later : {u v : Time} → u ≤ᵗ v → entry a s k <ᶜ past u → entry a s k <ᶜ past v
     later h i = past-before (after-mono h (before-past i))
 
-    -- no tip comes by the start of another and goes on
-    never-passed : (b : Track) (t r : Time) → Blocks S ends a t b r → Passed a b r → ⊥
-    never-passed b t r k p =
-        <ᵗ-irrefl (≤ᵗ-<ᵗ-trans (≤ᵗ-trans (k .running) (start-ends (meets (roll-of S acc .meets)) (k .on-sheet) m (λ e. k .other (sym e)) (p .by))) (p .before))
+    -- no tip comes to the trace of another and goes on
+    never-passed : (b : Track) (t r : Time) → t ≤ᵗ ends (a .id) → Blocks S ends a t b r → Passed a b r → ⊥
+    never-passed b t r h k p =
+        let d : a .id ≢ b .id = λ e. k .other (sym e) in
+        let (o, q) = contact-hit (contact b a) (contact-of acc (k .on-sheet) a m d) (p .hits) in
+        let alive = ≤ᵗ-trans q (≤ᵗ-trans (<ᵗ→≤ᵗ (p .before)) (≤ᵗ-trans (k .not-later) h)) in
+        let ended = trace-ends (meets (roll-of S acc .meets)) (k .on-sheet) (record { on-sheet = m; other = d; not-later = q; running = alive; there = o }) in
+        <ᵗ-irrefl (≤ᵗ-<ᵗ-trans (≤ᵗ-trans (k .running) ended) (p .before))
 
-    by-tip : (b : Track) (t r : Time) → Blocks S ends a t b r → entry a s k <ᶜ past t
-    by-tip b t r j = go (contact a b) refl (contact-of acc m b (j .on-sheet) (j .other))
+    by-tip : (b : Track) (t r : Time) → t ≤ᵗ ends (a .id) → Blocks S ends a t b r → entry a s k <ᶜ past t
+    by-tip b t r l j = go (contact a b) refl (contact-of acc m b (j .on-sheet) (j .other))
       where
         met : (u v : Time) → contact a b ≡ hit u v → v ≤ᵗ u → u ≤ᵗ t → v ≤ᵗ r → entry a s k <ᶜ past t
         met u v e o h i =
@@ -93,26 +97,26 @@ module _ {S : Listing} (acc : Accepted S) {done : List Row} (known : (d : Row) �
             (subst (λ (z : Track). v ≤ᵗ upTo done u (z .id)) (sym f) (in-known b u v o (≤ᵗ-trans i (j .running)))))
 
         go : (q : Contact) → contact a b ≡ q → ContactMeans a b q → entry a s k <ᶜ past t
-        go q e (no-contact g) = absurd (never-passed b t r j (g t r (j .there) (j .not-later)))
+        go q e (no-contact g) = absurd (never-passed b t r l j (g t r (j .there) (j .not-later)))
         go q e (contact-at u v x o g) = on (g t r (j .there) (j .not-later))
           where
             on : ((u ≤ᵗ t) × (v ≤ᵗ r)) ⊎ Passed a b r → entry a s k <ᶜ past t
             on (inl (h, i)) = met u v e o h i
-            on (inr p) = absurd (never-passed b t r j p)
+            on (inr p) = absurd (never-passed b t r l j p)
 
-    by-stop : (t : Time) → Stops S ends a t → entry a s k <ᶜ past t
-    by-stop t (by-track b r j) = by-tip b t r j
-    by-stop t (by-wall w i o) = go (wallTime a w) refl (wall-of acc m w i)
+    by-stop : (t : Time) → t ≤ᵗ ends (a .id) → Stops S ends a t → entry a s k <ᶜ past t
+    by-stop t h (by-track b r j) = by-tip b t r h j
+    by-stop t h (by-wall w i o) = go (wallTime a w) refl (wall-of acc m w i)
       where
         go : (q : Quot) → wallTime a w ≡ q → WallMeans a w q → entry a s k <ᶜ past t
         go q e (clear f) = absurd (f t o)
         go q e (touches u x f) =
             let (n, l, y) = at-mem noWall (S .walls) w i in
             later (f t o) (ahead .of-walls n l u (subst (λ (z : Wall). wallTime a z ≡ when u) (sym y) e))
-    by-stop t (by-edge o) = later (at-most (λ x. o .later (rim a) x (rim-last acc m .now))) on-sheet
+    by-stop t h (by-edge o) = later (at-most (λ x. o .later (rim a) x (rim-last acc m .now))) on-sheet
 
     pub before-end : entry a s k <ᶜ past (ends (a .id))
-    before-end = by-stop (ends (a .id)) (ends-in-time acc m .0 .stops)
+    before-end = by-stop (ends (a .id)) (≤ᵗ-refl (ends (a .id))) (ends-in-time acc m .0 .stops)
 
   -- the key of the entry of the next cell has its time
   pub cell-time : {s g : ℕ} {a : Track} → a ∈ S .tracks → (c : Cause) → Fine c → {k : Cell} → Stepped a (rim a) s g k (next a s k) → Ahead S done s a (next a s k) → (pendingKey a s k c .late ≡ 1 → ⊥) →

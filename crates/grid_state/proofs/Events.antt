@@ -15,6 +15,7 @@ use Rattle.sheet.proofs.Lists.{mem-at}
 use Rattle.rule.specs.declared.Row.{Row}
 use Rattle.rule.specs.Causes.{low, rowOf}
 use Rattle.rule.specs.EdgeTime.{rim}
+use Rattle.rule.proofs.OnSheet.{rim-opened}
 use Rattle.rule.specs.Rows.{timeOf}
 use Rattle.rule.specs.Selection.{rollOf}
 use Rattle.cause.specs.declared.Cause.{Cause}
@@ -158,7 +159,7 @@ module _ {S : Listing} {g k : ℕ} {w : Sweep} (go : Going S g k w) {r : ℕ} {e
         record { side-in = st .side-in; column-in = omega (arith, h .0, figure-in (go .figure) .2); row-in = omega (arith, h .1, figure-in (go .figure) .2) }
 
     short : length (cellsAt es r) < 63
-    short = let h = entered-few (go .figure) (stay-rim (st .accepted) on (≤ᵗ-refl (rim (tipAt S r)))) now-entered in omega (arith, h, figure-in (go .figure) .2)
+    short = let h = entered-few (go .figure) (stay-rim (st .accepted) on (rim-opened (st .accepted) on) (≤ᵗ-refl (rim (tipAt S r)))) now-entered in omega (arith, h, figure-in (go .figure) .2)
 
     state-left : StateOf S s n r done es (altered w ts (set (w .crowd .pending) r none))
     state-left =

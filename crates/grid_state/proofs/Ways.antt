@@ -16,6 +16,7 @@ use Rattle.sheet.proofs.Lists.{mem-at}
 use Rattle.rule.specs.declared.Row.{Row}
 use Rattle.rule.specs.Causes.{Cand, _≼_}
 use Rattle.rule.specs.EdgeTime.{rim}
+use Rattle.rule.proofs.OnSheet.{rim-opened}
 use Rattle.rule.proofs.Turn.{progress-start}
 use Rattle.cause.specs.declared.Cause.{Cause}
 use Rattle.cause.specs.Cause.{tipAt, candOf, Fine, Least}
@@ -260,7 +261,7 @@ module _ {S : Listing} {g b : ℕ} (fig : Figure g) {done : List Row} {es : List
 
   in-grid-first : InGrid (side g) start
   in-grid-first =
-      let h = good-in (st .accepted) fig (mem-at noTrack (S .tracks) b more) (first-good (tipAt S b) (rim (tipAt S b)) (side g) (figure-in fig .0)) in
+      let h = good-in (st .accepted) fig (mem-at noTrack (S .tracks) b more) (first-good (tipAt S b) (rim (tipAt S b)) (side g) (figure-in fig .0) (rim-opened (st .accepted) (mem-at noTrack (S .tracks) b more))) in
       record { side-in = figure-in fig .1; column-in = omega (arith, h .0, figure-in fig .2); row-in = omega (arith, h .1, figure-in fig .2) }
 
   empty : {A : Type 0} (j : ℕ) (k : Cell) → j ≡ b → k ∈ cellsAt es j → A
@@ -315,8 +316,8 @@ module _ {S : Listing} {g b : ℕ} (fig : Figure g) {done : List Row} {es : List
         runs = (omega arith, field-kept (λ (t : Tip). t .ended) ts b opened refl b ∙ runs);
         in-grid = in-grid-first;
         short = omega (arith, ap length none);
-        entered = subst (λ (z : List Cell). Entered (tipAt S b) (rim (tipAt S b)) (side g) start (start ∷ z)) (sym none) (entered-first (tipAt S b) (rim (tipAt S b)) (side g) (figure-in fig .0));
-        ahead = first-ahead S done (tipAt S b) (side g) (figure-in fig .0);
+        entered = subst (λ (z : List Cell). Entered (tipAt S b) (rim (tipAt S b)) (side g) start (start ∷ z)) (sym none) (entered-first (tipAt S b) (rim (tipAt S b)) (side g) (figure-in fig .0) (rim-opened (st .accepted) (mem-at noTrack (S .tracks) b more)));
+        ahead = first-ahead (st .accepted) done (mem-at noTrack (S .tracks) b more) (side g) (figure-in fig .0);
       }
 
   pub way-open : WayOf S (side g) (b + 1) b (first (tipAt S b) (side g)) done es (having w (withBest (withBase (w .crowd .tips) b c) b c))

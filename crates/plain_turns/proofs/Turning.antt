@@ -21,7 +21,7 @@ use Rattle.rule.specs.RowBytes.{rowBytes, rowWidth}
 use Rattle.rule.specs.Selection.{rollOf}
 use Rattle.rule.specs.WallTime.{wallTime}
 use Rattle.rule.proofs.Known.{below-le}
-use Rattle.rule.proofs.OnSheet.{rim-inside}
+use Rattle.rule.proofs.OnSheet.{rim-inside, formal-opened}
 use Rattle.rule.proofs.Places.{SeenAt, turn-at}
 use Rattle.rule.specs.Meanwhile.{Fresh, Progress}
 use Rattle.rule.proofs.Turn.{progress-more, beats-step}
@@ -108,7 +108,7 @@ module _ {S : Listing} (acc : Accepted S) {ts new : List Tip} {k i : ℕ} (st : 
           ok = acc .tracks-ok (tipAt S i) (on i (p .place));
           fine = stands .fine;
           id-in = stands .id-in;
-          inside = rim-inside acc (on i (p .place)) (cand i .u) (below-le (kept .seen i (p .place) runs .foremost .at-rim));
+          inside = rim-inside acc (on i (p .place)) (cand i .u) (formal-opened acc (on i (p .place)) (cand i .why) (stands .formal)) (below-le (kept .seen i (p .place) runs .foremost .at-rim));
         };
         more = l;
       }
