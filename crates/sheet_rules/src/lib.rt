@@ -1,7 +1,7 @@
 // The table's tests on one command and on two (SHEETS 3.1, 3.5, 3.6), exact: products in 64 bits.
 // `|` and `&` where both sides are cheap, an early return where the first test nearly always decides.
 ghost use mathlib.Core.Path.{_≡_};
-ghost use mathlib.Core.Bool.{_&&_, _||_, cond};
+ghost use mathlib.Core.Bool.{Bool, _&&_, _||_, cond};
 ghost use lib.Dec.{eqb, ltb};
 ghost use lib.IntN.{pos, natAbs, _*ℤ_};
 ghost use lib.Signed.{leZ};
@@ -11,11 +11,18 @@ use sheet::Command;
 use sheet::Track;
 use sheet::Wall;
 
+// Above what a coordinate and a start time may be.
+fn off(n: u16) -> bool
+    ensures { λ r. ⌜ r ≡ table.off n ⌝ }
+{
+    4095 < n
+}
+
 // A point outside the sheet.
 fn outside(x: u16, y: u16) -> bool
     ensures { λ r. ⌜ r ≡ (table.off x || table.off y) ⌝ }
 {
-    (4095 < x) | (4095 < y)
+    off(x) | off(y)
 }
 
 fn same_point(ax: u16, ay: u16, bx: u16, by: u16) -> bool
@@ -42,12 +49,12 @@ fn bad_speed(a: Track) -> bool
     too_fast(a.vx) | too_fast(a.vy) | still(a.vx, a.vy)
 }
 
-// 4: a coordinate above 4095.
+// 4: a coordinate or a start time above 4095.
 fn off_sheet(c: Command) -> bool
     ensures { λ r. ⌜ r ≡ table.offSheet c ⌝ }
 {
     match c {
-        Command::AddTrack(a) => outside(a.x, a.y),
+        Command::AddTrack(a, _) => outside(a.x, a.y) | off(a.start),
         Command::AddWall(w) => outside(w.ax, w.ay) | outside(w.bx, w.by),
     }
 }
@@ -57,7 +64,7 @@ fn wrong_speed(c: Command) -> bool
     ensures { λ r. ⌜ r ≡ table.wrongSpeed c ⌝ }
 {
     match c {
-        Command::AddTrack(a) => bad_speed(a),
+        Command::AddTrack(a, _) => bad_speed(a),
         Command::AddWall(_) => false,
     }
 }
@@ -67,7 +74,7 @@ fn equal_ends(c: Command) -> bool
     ensures { λ r. ⌜ r ≡ table.equalEnds c ⌝ }
 {
     match c {
-        Command::AddTrack(_) => false,
+        Command::AddTrack(_, _) => false,
         Command::AddWall(w) => same_point(w.ax, w.ay, w.bx, w.by),
     }
 }
@@ -179,8 +186,9 @@ fn facing(a: Track, b: Track) -> bool
     false
 }
 
+// By whichever of 01 and 03 each is listed; start times play no part.
 fn tracks_clash(a: Track, b: Track) -> u8
-    ensures { λ r. ⌜ r ≡ clashOf (Command.AddTrack a) (Command.AddTrack b) ⌝ }
+    ensures { λ r. ⌜ ((p q : Bool) → r ≡ clashOf (Command.AddTrack a p) (Command.AddTrack b q)) ⌝ }
 {
     if a.id == b.id {
         return 8;
@@ -212,12 +220,12 @@ pub fn clash(c: Command, d: Command) -> u8
     ensures { λ r. ⌜ r ≡ clashOf c d ⌝ }
 {
     match c {
-        Command::AddTrack(a) => match d {
-            Command::AddTrack(b) => tracks_clash(a, b),
+        Command::AddTrack(a, _) => match d {
+            Command::AddTrack(b, _) => tracks_clash(a, b),
             Command::AddWall(w) => start_clash(a, w),
         },
         Command::AddWall(v) => match d {
-            Command::AddTrack(b) => start_clash(b, v),
+            Command::AddTrack(b, _) => start_clash(b, v),
             Command::AddWall(w) => walls_clash(v, w),
         },
     }

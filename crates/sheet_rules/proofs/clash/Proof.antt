@@ -36,7 +36,7 @@ walls-clash-requires c κs = search needs
 
 returns : tie.Need-returns
 returns c =
-    rw (c .before .before .before .before .before .c .given .1, c .before .before .d .given .1) (c .tracks-clash .ensures)
+    rw (c .before .before .before .before .before .c .given .1, c .before .before .d .given .1) (c .tracks-clash .ensures _ _)
 
 returns-2 : tie.Need-returns-2
 unfolding clashOf

@@ -7,14 +7,14 @@ use Rattle.sheet_rules.proofs.tracks_clash.Tie as tie
 
 returns : tie.Need-returns
 unfolding clashOf
-returns c = rw (eq-eqb _ _ (c .if1 .taken))
+returns c = λ p q. rw (eq-eqb _ _ (c .if1 .taken))
 
 same-point-requires : tie.Need-same-point-requires
 same-point-requires c κs = search needs
 
 returns-2 : tie.Need-returns-2
 unfolding clashOf
-returns-2 c = rw (ne-eqb _ _ (c .before .before .if1 .left), ← c .before .same-point .ensures, c .if2 .taken)
+returns-2 c = λ p q. rw (ne-eqb _ _ (c .before .before .if1 .left), ← c .before .same-point .ensures, c .if2 .taken)
 
 facing-requires : tie.Need-facing-requires
 facing-requires c κs = search needs
@@ -22,14 +22,16 @@ facing-requires c κs = search needs
 returns-3 : tie.Need-returns-3
 unfolding clashOf
 returns-3 c =
-    let p = c .before .before in
-    rw (ne-eqb _ _ (p .before .before .if1 .left), ← p .before .same-point .ensures, p .if2 .left, ← c .before .facing .ensures, c .if3 .taken)
+    λ p q.
+    let b = c .before .before in
+    rw (ne-eqb _ _ (b .before .before .if1 .left), ← b .before .same-point .ensures, b .if2 .left, ← c .before .facing .ensures, c .if3 .taken)
 
 returns-4 : tie.Need-returns-4
 unfolding clashOf
 returns-4 c =
-    let p = c .before .before in
-    rw (ne-eqb _ _ (p .before .before .if1 .left), ← p .before .same-point .ensures, p .if2 .left, ← c .before .facing .ensures, c .if3 .left)
+    λ p q.
+    let b = c .before .before in
+    rw (ne-eqb _ _ (b .before .before .if1 .left), ← b .before .same-point .ensures, b .if2 .left, ← c .before .facing .ensures, c .if3 .left)
 
 pub tracks-clash-spec : {M : Type 1} → statement M
 tracks-clash-spec =
