@@ -20,7 +20,7 @@ use Rattle.sheet.specs.Scan.{verdictOf, commandsOf}
 use Rattle.sheet.specs.HandedIn.{filled, noTrack, noWall, sheetOf}
 use Rattle.sheet.proofs.Acceptance.{clear, tracks-append, walls-append}
 use Rattle.sheet_reader.specs.Walk.{WholeAt, ofKind}
-use Rattle.sheet_reader.proofs.Items.{is-end, end-is, whole-fits, known-inside}
+use Rattle.sheet_reader.proofs.Items.{is-end, end-is, known-inside}
 use Rattle.sheet_reader.proofs.Turns.{verdictFrom, commandsAfter, commands-add, commands-end, accepted-add, accepted-item}
 
 -- ---- an array that holds some records, blanks behind them
@@ -67,24 +67,24 @@ loaded-none s sheet h e =
 
 -- a sheet with the record of a command behind those of its kind
 abbrev pub stored : Command → Sheet → Sheet
-stored (AddTrack t) sheet =
+stored (AddTrack t p) sheet =
     record { tracks = set (sheet .tracks) (sheet .ntracks) t; ntracks = sheet .ntracks + 1; walls = sheet .walls; nwalls = sheet .nwalls }
 stored (AddWall w) sheet =
     record { tracks = sheet .tracks; ntracks = sheet .ntracks; walls = set (sheet .walls) (sheet .nwalls) w; nwalls = sheet .nwalls + 1 }
 
 module _ {s : List ℕ} {at : ℕ} {sheet : Sheet} (l : Loaded s at sheet) where
   room : (c : Command) → tooMany (l .before) c ≡ false → ofKind c (sheet .ntracks) (sheet .nwalls) < 256
-  room (AddTrack t) e = rw (l .tracks .counted) (leb-false _ _ e)
+  room (AddTrack t p) e = rw (l .tracks .counted) (leb-false _ _ e)
   room (AddWall w) e = rw (l .walls .counted) (leb-false _ _ e)
 
   tracks-more : (c : Command) → ofKind c (sheet .ntracks) (sheet .nwalls) < 256 → Holds noTrack (stored c sheet .tracks) (stored c sheet .ntracks) (tracksOf (l .before ++ (c ∷ [])))
   unfolding tracksOf
-  tracks-more (AddTrack t) h = rw tracks-append (holds-more noTrack t (l .tracks) h)
+  tracks-more (AddTrack t p) h = rw tracks-append (holds-more noTrack t (l .tracks) h)
   tracks-more (AddWall w) h = rw (tracks-append, append-nil) (l .tracks)
 
   walls-more : (c : Command) → ofKind c (sheet .ntracks) (sheet .nwalls) < 256 → Holds noWall (stored c sheet .walls) (stored c sheet .nwalls) (wallsOf (l .before ++ (c ∷ [])))
   unfolding wallsOf
-  walls-more (AddTrack t) h = rw (walls-append, append-nil) (l .walls)
+  walls-more (AddTrack t p) h = rw (walls-append, append-nil) (l .walls)
   walls-more (AddWall w) h = rw walls-append (holds-more noWall w (l .walls) h)
 
 module _ {s : List ℕ} {at : ℕ} {sheet : Sheet} (l : Loaded s at sheet) where
@@ -125,8 +125,8 @@ module _ {s : List ℕ} {at : ℕ} {sheet : Sheet} (l : Loaded s at sheet) where
     next : (firstBroken table (l .before) c ≡ no-line) × (verdictFrom s (at + width c) (l .before ++ (c ∷ [])) ≡ accepted)
     next = accepted-add s at (l .before) c (l .ahead) there
 
-    pub load-fits : (ofKind c (sheet .ntracks) (sheet .nwalls) < 256) × (at + width c ≤ length s)
-    load-fits = (room l c (clear _ _ (next .0) .room), whole-fits s at c there)
+    pub load-room : ofKind c (sheet .ntracks) (sheet .nwalls) < 256
+    load-room = room l c (clear _ _ (next .0) .room)
 
     pub load-more : Loaded s (at + width c) (stored c sheet)
     load-more =
@@ -134,6 +134,6 @@ module _ {s : List ℕ} {at : ℕ} {sheet : Sheet} (l : Loaded s at sheet) where
           before = l .before ++ (c ∷ []);
           listed = listed-more c there;
           ahead = next .1;
-          tracks = tracks-more l c (load-fits .0);
-          walls = walls-more l c (load-fits .0);
+          tracks = tracks-more l c load-room;
+          walls = walls-more l c load-room;
         }

@@ -29,7 +29,7 @@ module _ {s : List ℕ} {at tracks walls : ℕ} {before : List Command} (h : SoF
   many = go c
     where
       go : (d : Command) → tooMany before d ≡ leb 256 (ofKind d tracks walls)
-      go (AddTrack a) = rw (h .tracks-are)
+      go (AddTrack a p) = rw (h .tracks-are)
       go (AddWall w) = rw (h .walls-are)
 
   pub breaks-count : 256 ≤ ofKind c tracks walls → 7 ≡ firstBroken table before c
@@ -59,17 +59,17 @@ scanned-none s = record { before = []; counts = record { walk = refl; tracks-are
 
 -- a command is one of its kind
 pub one-kind : (c : Command) → ofKind c 1 0 + ofKind c 0 1 ≡ 1
-one-kind (AddTrack a) = refl
+one-kind (AddTrack a p) = refl
 one-kind (AddWall w) = refl
 
 one-track : (c : Command) → ofKind c 1 0 ≡ length (tracksOf (c ∷ []))
 unfolding tracksOf
-one-track (AddTrack a) = refl
+one-track (AddTrack a p) = refl
 one-track (AddWall w) = refl
 
 one-wall : (c : Command) → ofKind c 0 1 ≡ length (wallsOf (c ∷ []))
 unfolding wallsOf
-one-wall (AddTrack a) = refl
+one-wall (AddTrack a p) = refl
 one-wall (AddWall w) = refl
 
 module _ {s : List ℕ} {at tracks walls : ℕ} (h : Scanned s at tracks walls) (c : Command) (e : itemAt s at ≡ Add c) where

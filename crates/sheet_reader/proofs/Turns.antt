@@ -3,7 +3,7 @@ use Prim.Native.Nat.{ℕ, zero, suc, _≤_, _<_, _+_}
 use mathlib.Core.Path.{_≡_, refl, sym, ap, _∙_}
 use mathlib.Core.List.{List, [], _∷_, _++_}
 use mathlib.Core.Logic.{_⊎_, inl, inr}
-use mathlib.Core.Bool.{cond}
+use mathlib.Core.Bool.{true, false, cond}
 use native.Mathlib.Omega.{arith}
 use lib.Dec.{eqb}
 use lib.ListN.{length}
@@ -27,7 +27,8 @@ abbrev pub commandsAfter : List ℕ → ℕ → List Command
 commandsAfter s at = commandsFrom (suc (length s)) s at
 
 pub some-width : (c : Command) → 0 < width c
-some-width (AddTrack a) = omega arith
+some-width (AddTrack a false) = omega arith
+some-width (AddTrack a true) = omega arith
 some-width (AddWall w) = omega arith
 
 -- fuel that reaches the last byte is enough

@@ -8,33 +8,43 @@ ghost use lib.ListN.{length};
 ghost use Rattle.sheet.specs.declared.Command.{Command};
 ghost use Rattle.sheet.specs.declared.Item.the-variants.{Add};
 ghost use Rattle.sheet.specs.Listing.{listing};
-ghost use Rattle.sheet.specs.Format.{trackAt, wallAt, itemAt, width};
+ghost use Rattle.sheet.specs.Format.{openingAt, wallAt, itemAt, width};
 ghost use Rattle.sheet.specs.Table.{table, firstBroken};
 ghost use Rattle.sheet.specs.Returned.{verdict, accepted, refused};
 ghost use Rattle.sheet.specs.Scan.{verdictOf, commandsOf};
 ghost use Rattle.sheet.specs.HandedIn.{sheetOf};
 ghost use Rattle.sheet_rules.specs.Judged.{worstOf};
-ghost use Rattle.sheet_reader.specs.Walk.{WholeAt, Walk, SoFar, ofKind};
+ghost use Rattle.sheet_reader.specs.Walk.{WholeAt, Walk, SoFar, named, ofKind};
 ghost use Rattle.sheet_reader.specs.Reading.{ReadFrom};
 use sheet::Command;
 use sheet::Item;
+use sheet::LATE_BYTES;
 use sheet::Sheet;
+use sheet::TRACK_BYTES;
 use sheet::Track;
 use sheet::Verdict;
+use sheet::WALL_BYTES;
 use sheet::Wall;
 use sheet_rules::NO_LINE;
 
-// The operands of the track command at a place.
-fn track_at(s: &[u8], at: usize) -> Track
+// The operands that 01 and 03 have in common, of the track command at a place.
+fn track_at(s: &[u8], at: usize, start: u16) -> Track
     requires { ⌜ at + 9 ≤ length (now s) ⌝ }
-    ensures { λ r. ⌜ r ≡ trackAt (now (s .entry)) at ⌝ }
+    ensures { λ r. ⌜ r ≡ openingAt start (now (s .entry)) at ⌝ }
 {
     let id = byte_order::get16(s, at + 1);
     let x = byte_order::get16(s, at + 3);
     let y = byte_order::get16(s, at + 5);
     let vx = byte_order::signed(s[at + 7]);
     let vy = byte_order::signed(s[at + 8]);
-    Track { id, x, y, vx, vy }
+    Track {
+        id,
+        x,
+        y,
+        vx,
+        vy,
+        start,
+    }
 }
 
 // The operands of the wall command at a place.
@@ -50,6 +60,46 @@ fn wall_at(s: &[u8], at: usize) -> Wall
     Wall { id, ax, ay, bx, by }
 }
 
+// The command at a place at which a whole one is known to stand.
+fn command_at(s: &[u8], at: usize) -> Command
+    requires { ⌜ WholeAt (now s) at ⌝ }
+    ensures { λ r. ⌜ itemAt (now (s .entry)) at ≡ Add r ⌝ }
+{
+    let b = s[at];
+    if b == 1 {
+        let t = track_at(s, at, 0);
+        return Command::AddTrack(t, false);
+    }
+    if b == 2 {
+        let w = wall_at(s, at);
+        return Command::AddWall(w);
+    }
+    let start = byte_order::get16(s, at + 9);
+    let t = track_at(s, at, start);
+    Command::AddTrack(t, true)
+}
+
+// The bytes of the command that one of 01, 02 and 03 names.
+fn bytes_named(b: u8) -> usize
+    ensures { λ r. ⌜ r ≡ named b ⌝ }
+{
+    match b {
+        1 => TRACK_BYTES,
+        2 => WALL_BYTES,
+        _ => LATE_BYTES,
+    }
+}
+
+// The bytes that a command takes.
+fn bytes_of(c: Command) -> usize
+    ensures { λ r. ⌜ r ≡ width c ⌝ }
+{
+    match c {
+        Command::AddTrack(_, late) => if late { LATE_BYTES } else { TRACK_BYTES },
+        Command::AddWall(_) => WALL_BYTES,
+    }
+}
+
 // What stands at a place.
 fn item_at(s: &[u8], at: usize) -> Item
     ensures { λ r. ⌜ r ≡ itemAt (now (s .entry)) at ⌝ }
@@ -61,44 +111,14 @@ fn item_at(s: &[u8], at: usize) -> Item
     if b == 0 {
         return Item::End;
     }
-    if b == 1 {
-        if s.len() - at < 9 {
-            return Item::Cut;
-        }
-        let t = track_at(s, at);
-        return Item::Add(Command::AddTrack(t));
+    if 3 < b {
+        return Item::Unknown;
     }
-    if b == 2 {
-        if s.len() - at < 11 {
-            return Item::Cut;
-        }
-        let w = wall_at(s, at);
-        return Item::Add(Command::AddWall(w));
+    if s.len() - at < bytes_named(b) {
+        return Item::Cut;
     }
-    Item::Unknown
-}
-
-// The command at a place at which a whole one is known to stand.
-fn command_at(s: &[u8], at: usize) -> Command
-    requires { ⌜ WholeAt (now s) at ⌝ }
-    ensures { λ r. ⌜ itemAt (now (s .entry)) at ≡ Add r ⌝ }
-{
-    if s[at] == 1 {
-        let t = track_at(s, at);
-        return Command::AddTrack(t);
-    }
-    let w = wall_at(s, at);
-    Command::AddWall(w)
-}
-
-// The bytes that a command takes.
-fn bytes_of(c: Command) -> usize
-    ensures { λ r. ⌜ r ≡ width c ⌝ }
-{
-    match c {
-        Command::AddTrack(_) => 9,
-        Command::AddWall(_) => 11,
-    }
+    let c = command_at(s, at);
+    Item::Add(c)
 }
 
 // The least of 8 to 11 that a command breaks with one before it. Those before are read again from the bytes:
@@ -122,7 +142,7 @@ fn of_kind(c: Command, tracks: usize, walls: usize) -> usize
     ensures { λ r. ⌜ r ≡ ofKind c tracks walls ⌝ }
 {
     match c {
-        Command::AddTrack(_) => tracks,
+        Command::AddTrack(_, _) => tracks,
         Command::AddWall(_) => walls,
     }
 }
@@ -189,6 +209,7 @@ fn blank() -> Sheet
         y: 0,
         vx: 0,
         vy: 0,
+        start: 0,
     };
     let w = Wall {
         id: 0,
@@ -216,18 +237,17 @@ fn load(s: &[u8]) -> Sheet
     let mut at: usize = 0;
     while s[at] != 0 {
         let c = command_at(s, at);
+        at += bytes_of(c);
         match c {
-            Command::AddTrack(t) => {
+            Command::AddTrack(t, _) => {
                 let n = sheet.ntracks;
                 sheet.tracks[n] = t;
                 sheet.ntracks = n + 1;
-                at += 9;
             }
             Command::AddWall(w) => {
                 let n = sheet.nwalls;
                 sheet.walls[n] = w;
                 sheet.nwalls = n + 1;
-                at += 11;
             }
         }
     }

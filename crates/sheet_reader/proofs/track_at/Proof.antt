@@ -1,10 +1,9 @@
--- Five fields, each from its own place.
+-- Five fields, each from its own place; the start time is given.
 use borrow.Author.Needs.{needs}
 use mir.Facts.{toZ-ofZ}
 use mir.Syntax.{w8}
 use borrow.Author.Needs.{sfits-of}
 use mathlib.Core.Path.{_∙_}
-use Rattle.sheet.specs.Format.{trackAt}
 use Rattle.sheet_reader.proofs.track_at.Statement.{statement}
 use Rattle.sheet_reader.proofs.track_at.Tie as tie
 
@@ -45,7 +44,6 @@ signed-requires-2 : tie.Need-signed-requires-2
 signed-requires-2 c κs = search needs
 
 returns : tie.Need-returns
-unfolding trackAt
 returns c =
     λ i.
     record {
@@ -54,6 +52,7 @@ returns c =
       y = (c .before .before .before .before .get163 .ensures) i;
       vx = (toZ-ofZ {w = w8} (sfits-of (c .before .before .signed .ok)) ∙ c .before .before .signed .ensures) i;
       vy = (toZ-ofZ {w = w8} (sfits-of (c .signed2 .ok)) ∙ c .signed2 .ensures) i;
+      start = c .before .before .before .before .before .before .before .before .args .start;
     }
 
 pub track-at-spec : {M : Type 1} → statement M
