@@ -1,5 +1,6 @@
 -- Commands one behind the other, without the end.
 use mathlib.Core.Path.{_≡_}
+use mathlib.Core.Bool.{false}
 use mathlib.Core.List.{List, [], _∷_, _++_, map}
 use Prim.Native.Nat.{ℕ, _+_}
 use lib.ListN.{length, take}
@@ -19,12 +20,12 @@ pub record Ran (at : ℕ) (l : List Command) (before after : List ℕ) (end : �
   pub ends : end ≡ at + length (run l)
 
 abbrev pub idOf : Command → ℕ
-idOf (AddTrack a) = a .id
+idOf (AddTrack a p) = a .id
 idOf (AddWall w) = w .id
 
 -- what stands past the end of an array of commands
 abbrev pub noCommand : Command
-noCommand = AddTrack noTrack
+noCommand = AddTrack noTrack false
 
 -- m has as many elements as l, the first n of them those of l in another form
 pub record InForm {A : Type 0} (f : A → Command) (l : List A) (n : ℕ) (m : List Command) : Type 0 where
