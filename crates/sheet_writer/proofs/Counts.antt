@@ -1,34 +1,31 @@
--- An accepted sheet that was handed in claims at most 256 records of each kind (`few`), so its ordered form is as long as the writer says (`needed`).
-use Prim.Native.Nat.{ℕ, suc, _≤_, _+_, _*_}
+-- An accepted sheet that was handed in claims at most 256 records of each kind (`few`).
+use Prim.Native.Nat.{ℕ, suc, _≤_, _+_}
+use mathlib.Core.Bool.{true, false}
 use mathlib.Core.Path.{_≡_, refl, sym, ap, _∙_}
 use mathlib.Core.List.{List, [], _∷_, _++_, map, List·Memᴰ·not-nil}
 use native.Mathlib.Omega.{arith}
 use lib.ListN.{length, take, length-take, length-append}
 use Rattle.byte_order.specs.Bytes.{leOf, leBytes}
-use Rattle.sheet.specs.declared.Track.{Track}
-use Rattle.sheet.specs.declared.Wall.{Wall}
 use Rattle.sheet.specs.declared.Sheet.{Sheet}
 use Rattle.sheet.specs.declared.Command.{Command}
 use Rattle.sheet.specs.declared.Command.the-variants.{AddTrack, AddWall}
 use Rattle.sheet.specs.Listing.{Listing, tracksOf, wallsOf, listing}
-use Rattle.sheet.specs.Format.{trackBytes, wallBytes, trackAt, wallAt}
+use Rattle.sheet.specs.Format.{trackBytes, lateBytes, wallBytes, trackAt, lateAt, wallAt}
 use Rattle.sheet.specs.Returned.{accepted}
 use Rattle.sheet.specs.Accepted.{Accepted}
-use Rattle.sheet.specs.Ordered.{sortBy, commandsIn}
+use Rattle.sheet.specs.Ordered.{commandsIn}
 use Rattle.sheet.specs.HandedIn.{handedIn, checkOf}
 use Rattle.sheet.proofs.Lists.{all-cons}
 use Rattle.sheet.proofs.Format.{clip}
 use Rattle.sheet.proofs.Encoded.{verdict-encoded}
 use Rattle.sheet.proofs.Acceptance.{idOf, IdsIn, none-refused}
 use Rattle.sheet.proofs.RoundTrip.{listed}
-use Rattle.sheet_sorting.proofs.Insertion.{sort-length}
-use Rattle.sheet_encoding.proofs.Forms.{form-length}
-use Rattle.sheet_writer.specs.Written.{formOf}
 
 -- an id that is read has 16 bits
 clip-id : (c : Command) → idOf (clip c) ≤ 65535
-unfolding clip idOf trackAt wallAt trackBytes wallBytes leOf leBytes
-clip-id (AddTrack a) = omega arith
+unfolding clip idOf trackAt lateAt wallAt trackBytes lateBytes wallBytes leOf leBytes
+clip-id (AddTrack a false) = omega arith
+clip-id (AddTrack a true) = omega arith
 clip-id (AddWall w) = omega arith
 
 clip-ids : (l : List Command) → IdsIn (map clip l)
@@ -38,7 +35,8 @@ clip-ids (d ∷ l) c m = all-cons (λ c. idOf c ≤ 65535) (clip-id d) (clip-ids
 clip-counts : (l : List Command) → (length (tracksOf (map clip l)) ≡ length (tracksOf l)) × (length (wallsOf (map clip l)) ≡ length (wallsOf l))
 unfolding clip tracksOf wallsOf
 clip-counts [] = (refl, refl)
-clip-counts (AddTrack a ∷ l) = (ap suc (clip-counts l .0), clip-counts l .1)
+clip-counts (AddTrack a false ∷ l) = (ap suc (clip-counts l .0), clip-counts l .1)
+clip-counts (AddTrack a true ∷ l) = (ap suc (clip-counts l .0), clip-counts l .1)
 clip-counts (AddWall w ∷ l) = (clip-counts l .0, ap suc (clip-counts l .1))
 
 few-listed : (S : Listing) → Accepted (listing (map clip (commandsIn S))) → (length (S .tracks) ≤ 256) × (length (S .walls) ≤ 256)
@@ -63,12 +61,3 @@ module _ (s : Sheet) (t : length (s .tracks) ≡ 256) (w : length (s .walls) ≡
 
   pub few : (s .ntracks ≤ 256) × (s .nwalls ≤ 256)
   few = (claimed (s .tracks) _ (s .ntracks) t (within .0) .0, claimed (s .walls) _ (s .nwalls) w (within .1) .0)
-
-  pub needed : length (formOf s) ≡ s .ntracks * 9 + s .nwalls * 11 + 1
-  needed =
-      let S = handedIn s in
-      let ts = sortBy (λ (a : Track). a .id) (S .tracks) in
-      let ws = sortBy (λ (w : Wall). w .id) (S .walls) in
-      let a = sort-length (λ (a : Track). a .id) (S .tracks) ∙ claimed (s .tracks) _ (s .ntracks) t (within .0) .1 in
-      let b = sort-length (λ (w : Wall). w .id) (S .walls) ∙ claimed (s .walls) _ (s .nwalls) w (within .1) .1 in
-      omega (arith, form-length ts ws)

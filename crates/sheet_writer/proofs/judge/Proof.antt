@@ -4,8 +4,8 @@ use lib.ListN.{length-take, length}
 use borrow.Author.Needs.{needs}
 use native.Mathlib.Omega.{arith}
 use Rattle.sheet.specs.Scan.{verdictOf}
-use Rattle.sheet_writer.proofs.check.Statement.{statement}
-use Rattle.sheet_writer.proofs.check.Tie as tie
+use Rattle.sheet_writer.proofs.judge.Statement.{statement}
+use Rattle.sheet_writer.proofs.judge.Tie as tie
 
 slice-aggregate-list : tie.Need-slice-aggregate-list
 slice-aggregate-list c = search needs
@@ -25,10 +25,12 @@ scan-requires : tie.Need-scan-requires
 scan-requires c κs = search needs
 
 returns : tie.Need-returns
-returns c = c .scan .ensures ∙ ap verdictOf (c .before .before .before .list .ensures .1)
+returns c =
+    let l = c .before .before .before .list in
+    (c .scan .ensures ∙ ap verdictOf (l .ensures .1), l .ensures .0)
 
-pub check-spec : {M : Type 1} → statement M
-check-spec =
+pub judge-spec : {M : Type 1} → statement M
+judge-spec =
     tie.close
     (tie.spec
     slice-aggregate-list
