@@ -54,7 +54,7 @@ claimed P l d n f b a m = go (List·Memᴰ·append-cases l (take-in n (l ++ (d �
     go (inr k) = last (List·Memᴰ·cases-cons k)
 
 no-track-fits : TrackFits noTrack
-no-track-fits = record { id = record { fits = lit< tt }; x = record { fits = lit< tt }; y = record { fits = lit< tt }; vx = sfits-of (lit< tt); vy = sfits-of (lit< tt) }
+no-track-fits = record { id = record { fits = lit< tt }; x = record { fits = lit< tt }; y = record { fits = lit< tt }; vx = sfits-of (lit< tt); vy = sfits-of (lit< tt); start = record { fits = lit< tt } }
 
 no-wall-fits : WallFits noWall
 no-wall-fits = record { id = record { fits = lit< tt }; ax = record { fits = lit< tt }; ay = record { fits = lit< tt }; bx = record { fits = lit< tt }; by = record { fits = lit< tt } }
@@ -87,7 +87,7 @@ module _ (s : Sheet) {vs : List Val} (typed : Is (row the-type) s vs) where
       let w = typed .1 .1 .1 .1 .0 in
       ready (places .0) (places .1)
       (each-in _ _ TrackFits
-      (λ a u z. record { id = record { fits = z .1 .1 .0 .1 }; x = record { fits = z .1 .1 .1 .0 .1 }; y = record { fits = z .1 .1 .1 .1 .0 .1 }; vx = sfits-of (z .1 .1 .1 .1 .1 .0 .1); vy = sfits-of (z .1 .1 .1 .1 .1 .1 .0 .1) })
+      (λ a u z. record { id = record { fits = z .1 .1 .0 .1 }; x = record { fits = z .1 .1 .1 .0 .1 }; y = record { fits = z .1 .1 .1 .1 .0 .1 }; vx = sfits-of (z .1 .1 .1 .1 .1 .0 .1); vy = sfits-of (z .1 .1 .1 .1 .1 .1 .0 .1); start = record { fits = z .1 .1 .1 .1 .1 .1 .1 .0 .1 } })
       (s .tracks) (t .0) (t .1 .1))
       (each-in _ _ WallFits
       (λ a u z. record { id = record { fits = z .1 .1 .0 .1 }; ax = record { fits = z .1 .1 .1 .0 .1 }; ay = record { fits = z .1 .1 .1 .1 .0 .1 }; bx = record { fits = z .1 .1 .1 .1 .1 .0 .1 }; by = record { fits = z .1 .1 .1 .1 .1 .1 .0 .1 } })
