@@ -265,14 +265,9 @@ pub fn read(s: &[u8]) -> Reading
     ensures { λ r. ⌜ ReadFrom (now (s .entry)) r ⌝ }
 {
     let verdict = scan(s);
-    match verdict {
-        Verdict::Accepted => {
-            let sheet = load(s);
-            Reading { verdict, sheet }
-        }
-        Verdict::Refused(_, _) => {
-            let sheet = blank();
-            Reading { verdict, sheet }
-        }
-    }
+    let sheet = match verdict {
+        Verdict::Accepted => load(s),
+        Verdict::Refused(_, _) => blank(),
+    };
+    Reading { verdict, sheet }
 }
