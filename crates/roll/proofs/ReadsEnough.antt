@@ -1,4 +1,4 @@
--- The program reads enough of its input: `reads-enough`, the first 5,131 bytes decide what is printed (SHEETS 2.10).
+-- The program reads enough of its input: `reads-enough`, the first 5,643 bytes decide what is printed (SHEETS 2.10).
 use mathlib.Core.Path.{_≡_, refl, ap}
 use mathlib.Core.List.{List}
 use Prim.Native.Nat.{ℕ, _≤_}
