@@ -4,8 +4,7 @@ use mathlib.Core.List.{List, map}
 use Prim.Native.Nat.{ℕ}
 use Rattle.sheet.specs.declared.Track.{Track}
 use Rattle.sheet.specs.Accepted.{Accepted}
-use Rattle.sheet.specs.Listing.{Listing}
-use Rattle.sheet.proofs.Order.{Reordered}
+use Rattle.sheet.specs.Listing.{Listing, Reordered}
 use Rattle.rule.specs.declared.Row.{Row}
 use Rattle.rule.specs.Rows.{timeOf}
 use Rattle.rule.specs.Selection.{rollOf}

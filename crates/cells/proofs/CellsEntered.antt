@@ -6,8 +6,7 @@ use Prim.Native.Nat.{ℕ, _*_, _-_, _≤_}
 use lib.ListN.{length}
 use Rattle.sheet.specs.declared.Track.{Track}
 use Rattle.sheet.specs.Accepted.{Accepted}
-use Rattle.sheet.specs.Listing.{Listing, _∈_}
-use Rattle.sheet.proofs.Order.{Reordered}
+use Rattle.sheet.specs.Listing.{Listing, _∈_, Reordered}
 use Rattle.rule.specs.declared.Row.{Row}
 use Rattle.rule.specs.Rows.{timeOf}
 use Rattle.rule.specs.Selection.{rollOf}

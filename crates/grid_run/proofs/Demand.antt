@@ -1,7 +1,7 @@
 -- One sheet, one roll (SHEETS 10.1, 10.2): `demand`; `demand-bytes` for a sheet's bytes, `demand-records` for records handed in. The statement is specs/Demand.antt.
 use mathlib.Core.Path.{_≡_, refl, sym, ap, _∙_, subst}
 use mathlib.Core.Bool.{Bool, true, false}
-use mathlib.Core.List.{List, _++_, Permᴰ·symm}
+use mathlib.Core.List.{List, _++_}
 use Prim.Native.Nat.{ℕ, _*_, _≤_, _<_}
 use native.Mathlib.Omega.{arith}
 use borrow.Author.Tests.{ltb-true, ltb-false}
@@ -12,18 +12,15 @@ use Rattle.byte_order.specs.Bytes.{AllBytes}
 use Rattle.sheet.specs.declared.Command.{Command}
 use Rattle.sheet.specs.declared.Sheet.{Sheet}
 use Rattle.sheet.specs.Accepted.{Accepted}
-use Rattle.sheet.specs.Format.{encodeAll}
 use Rattle.sheet.specs.HandedIn.{handedIn, checkOf}
 use Rattle.sheet.specs.Lent.{after}
-use Rattle.sheet.specs.Listing.{Listing, listing}
+use Rattle.sheet.specs.Listing.{Listing, listing, Reordered}
 use Rattle.sheet.specs.Ordered.{commandsIn}
 use Rattle.sheet.specs.Returned.{Returned, accepted, gives, refused}
 use Rattle.sheet.specs.Scan.{verdictOf, commandsOf}
-use Rattle.sheet.proofs.Decoded.{accepted-bytes, accepted-fits}
 use Rattle.sheet.proofs.Lent.{said-short, said-given, kept, put}
-use Rattle.sheet.proofs.Lists.{perm-mem}
-use Rattle.sheet.proofs.Order.{Reordered, reordered, accepted-reordered}
-use Rattle.sheet.proofs.RoundTrip.{AllFit, Fit, all-fit, accepted-exactly, order-verdict, read-back, listed}
+use Rattle.sheet.proofs.Order.{accepted-reordered}
+use Rattle.sheet.proofs.RoundTrip.{Fit, all-fit, accepted-exactly, accepted-records}
 use Rattle.rule.specs.declared.Row.{Row}
 use Rattle.rule.specs.RowBytes.{rollBytes, rowWidth}
 use Rattle.rule.specs.Selection.{rollOf}
@@ -42,7 +39,8 @@ use Rattle.plain_run.specs.Rolled.{needed, rollReturns, Rolls}
 use Rattle.grid_run.specs.declared.GridRolled.{GridRolled}
 use Rattle.grid_run.specs.declared.GridRolled.the-variants.{Rows, Refused}
 use Rattle.grid_run.specs.GridRolled.{Reported, gridRolled, withRows, GridRolls}
-use Rattle.grid_run.specs.Demand.{Given, in-bytes, in-records, Outcome, too-short, written, Reports, Demand3}
+use Rattle.grid_run.specs.Demand.{Given, Outcome, too-short, written, Reports, Demand3}
+use Rattle.grid_run.proofs.Given.{given-accepted, given-records}
 use Rattle.grid_run.proofs.Outcome.{figured, rows-count}
 
 -- ---- what a run of an accepted sheet comes to
@@ -80,34 +78,22 @@ front {roll} {before} (written h e) k =
 
 -- ---- a sheet in any order
 
-module _ (l : List Command) (fit : AllFit l) (ok : verdictOf (encodeAll l) ≡ accepted) where
+module _ (l : List Command) (acc : Accepted (listing l)) where
   abbrev S : Listing
   S = listing l
 
-  acc : Accepted S
-  acc = accepted-exactly fit .0 ok
-
-  is-accepted : (v : Returned) (T : Listing) → Given l v T → v ≡ accepted
-  is-accepted v T (in-bytes k p) = order-verdict p fit ok
-  is-accepted v T (in-records s p) = order-verdict p fit ok
-
-  same-records : (v : Returned) (T : Listing) → Given l v T → Reordered S T
-  same-records v T (in-bytes k p) =
-      subst (λ (z : List Command). Reordered S (listing z)) (sym (read-back {l = k} (λ c m. fit c (perm-mem (Permᴰ·symm p) c m)))) (reordered p)
-  same-records v T (in-records s p) = subst (λ (z : Listing). Reordered S z) (listed (handedIn s)) (reordered p)
-
   module _ (v : Returned) (T : Listing) (i : Given l v T) where
     p : Reordered S T
-    p = same-records v T i
+    p = given-records acc i
 
     plainly : (before exit : List ℕ) (r : Answer) → Rolls v T before exit r → Outcome (rollOf S) before exit (answered r)
     plainly before exit r h =
-        let k = subst (λ (z : Returned). Rolls z T before exit r) (is-accepted v T i) h in
+        let k = subst (λ (z : Returned). Rolls z T before exit r) (given-accepted acc i) h in
         subst (λ (z : List Row). Outcome z before exit (answered r)) (sym (roll-order p acc)) (outcome T (accepted-reordered p acc) before exit (answered r) (k .answer) (k .buffer))
 
     gridly : (g : ℕ) → Figure g → (before exit : List ℕ) (r : GridRolled) → GridRolls v T g before exit r → Outcome (rollOf S) before exit (gridRolled r .returned) × Reports (cellsEntered S g) r
     gridly g f before exit r h =
-        let k = subst (λ (z : Returned). GridRolls z T g before exit r) (is-accepted v T i) h in
+        let k = subst (λ (z : Returned). GridRolls z T g before exit r) (given-accepted acc i) h in
         let e = figured T g (length before) (figure-is f) in
         let q = ap (λ (z : Reported). z .returned) (k .answer) in (
           subst (λ (z : List Row). Outcome z before exit (gridRolled r .returned)) (sym (roll-order p acc))
@@ -131,17 +117,16 @@ module _ (l : List Command) (fit : AllFit l) (ok : verdictOf (encodeAll l) ≡ a
         no-other-count = λ g n f c. the-count acc f c;
         few = λ g f a m k c. trace-few acc f a m k c;
         few-in-all = λ g f. count-few acc f;
-        all-accepted = is-accepted;
-        one-rule = λ v T i q. meets-order (same-records v T i);
+        all-accepted = λ v T i. given-accepted acc i;
+        one-rule = λ v T i q. meets-order (given-records acc i);
         by-plain = plainly;
         by-grid = λ v T g i f. gridly v T i g f;
         equal = λ v w T T′ g i j f a a′ b b′ p r h k m n. front (plainly v T i a a′ p h) m ∙ sym (front (gridly w T′ j g f b b′ r k .0) n);
       }
 
--- an accepted sheet's bytes are its commands, each within its widths, and 00
 pub demand-bytes : (s : List ℕ) → AllBytes s → verdictOf s ≡ accepted → Demand3 (commandsOf s)
-demand-bytes s b e = demand (commandsOf s) (accepted-fits s b e) (sym (ap verdictOf (accepted-bytes s b e)) ∙ e)
+demand-bytes s b e = demand (commandsOf s) (accepted-records s b e)
 
 -- records' fields are within their widths, as their types say
 pub demand-records : (s : Sheet) → Fit (handedIn s) → checkOf s ≡ accepted → Demand3 (commandsIn (handedIn s))
-demand-records s f e = demand (commandsIn (handedIn s)) (all-fit (handedIn s) f) e
+demand-records s f e = demand (commandsIn (handedIn s)) (accepted-exactly (all-fit (handedIn s) f) .0 e)

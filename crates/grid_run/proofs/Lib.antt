@@ -1,3 +1,4 @@
 pub mod Outcome
+pub mod Given
 pub mod Demand
 pub mod TwoListings

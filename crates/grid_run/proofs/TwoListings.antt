@@ -9,6 +9,7 @@ use Rattle.sheet.specs.Listing.{listing}
 use Rattle.sheet.specs.Returned.{accepted}
 use Rattle.sheet.specs.Scan.{verdictOf, commandsOf}
 use Rattle.sheet.proofs.Decoded.{accepted-fits}
+use Rattle.sheet.proofs.Order.{reordered}
 use Rattle.sheet.proofs.RoundTrip.{order-verdict}
 use Rattle.sheet.specs.declared.Answer.{Answer}
 use Rattle.rule.specs.RowBytes.{rowWidth}
@@ -33,9 +34,11 @@ module _ (e : AtEntry) (b : AllBytes (e .first)) (b′ : AllBytes (e .second)) {
             let l = commandsOf (e .first) in
             let k = commandsOf (e .second) in
             let d = demand-bytes (e .first) b ok in
+            let fit = accepted-fits (e .first) b ok in
+            let fit′ = accepted-fits (e .second) b′ (other-accepted b (o .first-whole) (o .second-whole) (o .order) ok) in
             let h = subst (λ (s : List ℕ). Rolls (verdictOf s) (listing (commandsOf s)) (e .plain) plain p) (o .first-whole) by-plain in
             let h′ = subst (λ (s : List ℕ). GridRolls (verdictOf s) (listing (commandsOf s)) (e .figure) (e .grid) grid r) (o .second-whole) by-grid in
             let n = ap (λ (m : ℕ). rowWidth * m) (d .one-each) in
             subst (λ (m : ℕ). take m plain ≡ take m grid) n
-            (d .equal _ _ _ _ (e .figure) (in-bytes l (Permᴰ·refl l)) (in-bytes k (o .order)) f (e .plain) plain (e .grid) grid p r h h′ (rw (d .one-each) long) (rw (d .one-each) long′));
+            (d .equal _ _ _ _ (e .figure) (in-bytes l fit (reordered (Permᴰ·refl l))) (in-bytes k fit′ (reordered (o .order))) f (e .plain) plain (e .grid) grid p r h h′ (rw (d .one-each) long) (rw (d .one-each) long′));
       }

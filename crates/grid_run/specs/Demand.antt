@@ -1,16 +1,15 @@
 -- One sheet, one roll (SHEETS 10.1, 10.2): one claim about a sheet in every order of its commands, by both runs and at the six figures. Proved as `demand` in proofs/Demand.antt.
 use mathlib.Core.Path.{_≡_}
 use mathlib.Core.Logic.{_↔_}
-use mathlib.Core.List.{List, _++_, List·Permᴰ}
+use mathlib.Core.List.{List, _++_}
 use Prim.Native.Nat.{ℕ, _*_, _-_, _≤_, _<_}
 use lib.ListN.{length, take, drop}
 use Rattle.sheet.specs.declared.Command.{Command}
 use Rattle.sheet.specs.declared.Sheet.{Sheet}
 use Rattle.sheet.specs.declared.Track.{Track}
-use Rattle.sheet.specs.Format.{encodeAll}
+use Rattle.sheet.specs.Format.{AllFit, encodeAll}
 use Rattle.sheet.specs.HandedIn.{handedIn, checkOf}
-use Rattle.sheet.specs.Listing.{Listing, listing, tracksOf, _∈_}
-use Rattle.sheet.specs.Ordered.{commandsIn}
+use Rattle.sheet.specs.Listing.{Listing, listing, tracksOf, Reordered, _∈_}
 use Rattle.sheet.specs.Returned.{Returned, accepted, gives, refused}
 use Rattle.sheet.specs.Scan.{verdictOf, commandsOf}
 use Rattle.rule.specs.declared.Row.{Row}
@@ -28,12 +27,12 @@ use Rattle.grid_run.specs.declared.GridRolled.{GridRolled}
 use Rattle.grid_run.specs.declared.GridRolled.the-variants.{Rows, Refused}
 use Rattle.grid_run.specs.GridRolled.{gridRolled, GridRolls}
 
--- The sheet of commands l as a caller may give it (SHEETS 2.5, 10.1): in bytes, in any order of the commands before 00; or as records,
--- which stand for the sheet that lists them (SHEETS 2.8).
+-- The sheet of commands l as a caller may give it (SHEETS 2.5, 10.1): in bytes, that list its records in any order, a start time of 0 by 01 or by 03;
+-- or as records in any order, which stand for the sheet that lists them (SHEETS 2.8).
 -- With the verdict and the records that the contracts speak of: those of plain_roll_bytes and grid_roll_bytes, and those of plain_roll and grid_roll.
 pub data Given (l : List Command) : Returned → Listing → Type 0 where
-  in-bytes : (k : List Command) → List·Permᴰ l k → Given l (verdictOf (encodeAll k)) (listing (commandsOf (encodeAll k)))
-  in-records : (s : Sheet) → List·Permᴰ l (commandsIn (handedIn s)) → Given l (checkOf s) (handedIn s)
+  in-bytes : (k : List Command) → AllFit k → Reordered (listing l) (listing k) → Given l (verdictOf (encodeAll k)) (listing (commandsOf (encodeAll k)))
+  in-records : (s : Sheet) → Reordered (listing l) (handedIn s) → Given l (checkOf s) (handedIn s)
 
 -- 12 alone can refuse a run (SHEETS 10.1), and then nothing is written; else the roll's bytes are written, and nothing behind them (SHEETS 3.10)
 pub data Outcome (roll : List Row) (before exit : List ℕ) : Returned → Type 0 where

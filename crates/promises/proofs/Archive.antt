@@ -1,6 +1,7 @@
 -- `archive`: what specs/Archive.antt says holds of the bytes of every accepted sheet.
 use mathlib.Core.Path.{_≡_, refl, sym, ap, _∙_, subst}
-use mathlib.Core.List.{List, [], _∷_, Permᴰ·symm}
+use mathlib.Core.Bool.{Bool, true, false}
+use mathlib.Core.List.{List, [], _∷_, _++_, map, Permᴰ·symm, List·Memᴰ·head, List·Memᴰ·tail}
 use Prim.Native.Nat.{ℕ, suc, pred, _+_, _*_, _≤_, _<_}
 use native.Mathlib.Omega.{arith}
 use lib.ListN.{length, take, length-append}
@@ -12,19 +13,21 @@ use Rattle.byte_order.specs.Bytes.{AllBytes}
 use Rattle.sheet.specs.declared.Command.{Command}
 use Rattle.sheet.specs.declared.Command.the-variants.{AddTrack, AddWall}
 use Rattle.sheet.specs.declared.Sheet.{Sheet}
+use Rattle.sheet.specs.declared.Track.{Track}
+use Rattle.sheet.specs.declared.Wall.{Wall}
 use Rattle.sheet.specs.Accepted.{Accepted}
-use Rattle.sheet.specs.Format.{encodeAll}
+use Rattle.sheet.specs.Format.{AllFit, encodeAll, width}
 use Rattle.sheet.specs.HandedIn.{handedIn, checkOf, sheetOf}
-use Rattle.sheet.specs.Listing.{Listing, listing, tracksOf, wallsOf}
-use Rattle.sheet.specs.Ordered.{ordered, commandsIn, orderedForm}
+use Rattle.sheet.specs.Listing.{Listing, listing, tracksOf, wallsOf, Reordered}
+use Rattle.sheet.specs.Ordered.{ordered, entry, commandsIn, orderedForm}
 use Rattle.sheet.specs.Returned.{Returned, accepted, gives}
 use Rattle.sheet.specs.Scan.{verdictOf, commandsOf}
-use Rattle.sheet.proofs.Decoded.{accepted-bytes}
+use Rattle.sheet.proofs.Decoded.{accepted-bytes, accepted-fits}
 use Rattle.sheet.proofs.Format.{encode-length}
 use Rattle.sheet.proofs.Lent.{said-given, put}
-use Rattle.sheet.proofs.Lists.{perm-length}
-use Rattle.sheet.proofs.Order.{Reordered, accepted-reordered}
-use Rattle.sheet.proofs.RoundTrip.{accepted-records, listed, ordered-same, handed-back, same-sheet}
+use Rattle.sheet.proofs.Order.{accepted-reordered}
+use Rattle.sheet.proofs.RoundTrip.{accepted-records, ordered-same, handed-back, same-sheet}
+use Rattle.sheet_encoding.proofs.Forms.{entry-most, ordered-length}
 use Rattle.sheet_reader.specs.declared.Reading.{Reading}
 use Rattle.sheet_reader.specs.Reading.{ifAccepted, ReadFrom}
 use Rattle.sheet.specs.declared.Answer.{Answer}
@@ -33,21 +36,41 @@ use Rattle.sheet_writer.specs.Written.{formOf}
 use Rattle.rule.specs.declared.Row.{Row}
 use Rattle.rule.specs.Rows.{time}
 use Rattle.rule.proofs.Existence.{roll-of}
-use Rattle.promises.specs.Archive.{Writes, SameRecords, Again, Archive}
+use Rattle.promises.specs.Archive.{Writes, SameRecords, Again, Kept, Archive}
 use Rattle.promises.specs.Runs.{InRoll}
 use Rattle.promises.proofs.Runs.{in-roll}
 use Rattle.promises.proofs.Sheets.{checks}
 
 -- ---- the length of a sheet
 
-size : (l : List Command) → length (encodeAll l) ≡ 9 * length (tracksOf l) + 11 * length (wallsOf l) + 1
-unfolding encodeAll tracksOf wallsOf
-size [] = refl
-size (AddTrack a ∷ l) = simp length-append (omega (arith, encode-length (AddTrack a), size l))
-size (AddWall w ∷ l) = simp length-append (omega (arith, encode-length (AddWall w), size l))
+-- the bytes of the tracks, each by 03 only where its start time is not 0
+opens : List Track → ℕ
+opens [] = 0
+opens (a ∷ l) = width (entry a) + opens l
 
-listed-size : (S : Listing) → length (encodeAll (commandsIn S)) ≡ 9 * length (S .tracks) + 11 * length (S .walls) + 1
-listed-size S = size (commandsIn S) ∙ ap (λ (T : Listing). 9 * length (T .tracks) + 11 * length (T .walls) + 1) (listed S)
+size : (l : List Command) → AllFit l → opens (tracksOf l) + 11 * length (wallsOf l) + 1 ≤ length (encodeAll l)
+unfolding opens encodeAll tracksOf wallsOf
+size [] f = omega arith
+size (AddTrack a q ∷ l) f =
+    simp length-append (omega (arith, encode-length (AddTrack a q), size l (λ c m. f c (List·Memᴰ·tail m)), least a q (f (AddTrack a q) (List·Memᴰ·head refl) .1)))
+  where
+    least : (a : Track) (q : Bool) → (q ≡ false → a .start ≡ 0) → width (entry a) ≤ width (AddTrack a q)
+    least a false h = rw (h refl) (omega arith)
+    least a true h = entry-most a
+size (AddWall w ∷ l) f = simp length-append (omega (arith, encode-length (AddWall w), size l (λ c m. f c (List·Memᴰ·tail m))))
+
+tracks-size : (ts : List Track) (k : List Command) → length (encodeAll (map entry ts ++ k)) ≡ opens ts + length (encodeAll k)
+unfolding opens encodeAll
+tracks-size [] k = omega arith
+tracks-size (a ∷ ts) k = simp length-append (omega (arith, encode-length (entry a), tracks-size ts k))
+
+walls-size : (ws : List Wall) → length (encodeAll (map AddWall ws)) ≡ 11 * length ws + 1
+unfolding encodeAll
+walls-size [] = refl
+walls-size (w ∷ ws) = simp length-append (omega (arith, encode-length (AddWall w), walls-size ws))
+
+listed-size : (S : Listing) → length (encodeAll (commandsIn S)) ≡ opens (S .tracks) + 11 * length (S .walls) + 1
+listed-size S = omega (arith, tracks-size (S .tracks) (map AddWall (S .walls)), walls-size (S .walls))
 
 -- ---- one reading, one writing
 
@@ -86,36 +109,39 @@ module _ (s : List ℕ) (b : AllBytes s) (e : verdictOf s ≡ accepted) where
   acc : Accepted S
   acc = accepted-records s b e
 
-  as-long : length (orderedForm S) ≡ length s
-  as-long =
-      let p = ordered-same S in
-      omega (arith, listed-size (ordered S), perm-length (p .tracks), perm-length (p .walls), size (commandsOf s), ap length (accepted-bytes s b e))
+  no-longer : length (orderedForm S) ≤ length s
+  no-longer = omega (arith, ordered-length S, listed-size S, size (commandsOf s) (accepted-fits s b e), ap length (accepted-bytes s b e))
 
   -- of what was read once, written, and read again
   module _ (r : Reading) (h : ReadFrom s r) where
     first : r .sheet ≡ sheetOf S
     first = read-as s S e refl r h
 
-    once : {before exit : List ℕ} {w : Answer} → Writes (r .sheet) before exit w → length s ≤ length before → (answered w ≡ gives (length s)) × (take (length s) exit ≡ orderedForm S)
-    once c k = rw as-long at (wrote S acc (r .sheet) first c (rw as-long k))
+    once : {before exit : List ℕ} {w : Answer} → Writes (r .sheet) before exit w → length s ≤ length before → (answered w ≡ gives (length (orderedForm S))) × (take (length (orderedForm S)) exit ≡ orderedForm S)
+    once c k = wrote S acc (r .sheet) first c (omega (arith, no-longer))
 
     module _ (q : Reading) (k : ReadFrom (orderedForm S) q) where
       second : q .sheet ≡ sheetOf (ordered S)
       second = let t = same-sheet s b e .again in read-as (orderedForm S) (ordered S) (t .verdict) (t .records) q k
 
-      twice : {before exit : List ℕ} {w : Answer} → Writes (q .sheet) before exit w → length s ≤ length before → take (length s) exit ≡ orderedForm S
+      twice : {before exit : List ℕ} {w : Answer} → Writes (q .sheet) before exit w → length (orderedForm S) ≤ length before → take (length (orderedForm S)) exit ≡ orderedForm S
       twice c m =
           let p = ordered-same S in
           let t = same-sheet s b e .bytes in
-          rw (t, as-long) at (wrote (ordered S) (accepted-reordered (flip p) acc) (q .sheet) second c (rw (t, as-long) m) .1)
+          rw t at (wrote (ordered S) (accepted-reordered (flip p) acc) (q .sheet) second c (rw t m) .1)
 
     is-again : Again (r .sheet) (orderedForm S)
     is-again =
         record {
           accepts = λ q k. k .judged ∙ same-sheet s b e .again .verdict;
           same = λ q k. same-records first (second q k) (flip (ordered-same S));
-          still = λ q k c m. rw as-long (twice q k c (rw as-long at m));
+          still = λ q k c m. twice q k c m;
         }
+
+    is-kept : {before exit : List ℕ} {w : Answer} → Writes (r .sheet) before exit w → length s ≤ length before → Kept s (r .sheet) exit w
+    is-kept c k =
+        let (answer, file) = once c k in
+        record { size = length (orderedForm S); no-longer = no-longer; answer = answer; again = subst (Again (r .sheet)) (sym file) is-again }
 
 -- ---- the times
 
@@ -136,8 +162,7 @@ pub archive : (s : List ℕ) → AllBytes s → verdictOf s ≡ accepted → Arc
 archive s b e =
     let lowest = in-lowest (commandsOf s) (acc s b e) in
     record {
-      as-long = λ r h c k. once s b e r h c k .0;
-      again = λ r h c k. subst (Again (r .sheet)) (sym (once s b e r h c k .1)) (is-again s b e r h);
+      kept = λ r h c k. is-kept s b e r h c k;
       lowest = lowest;
       one-fraction = λ l acc r q h k. one-fraction r q (lowest r h) (in-lowest l acc q k);
     }

@@ -22,7 +22,7 @@ use Rattle.cell_listing.proofs.IdBytes.{bytes-length}
 use Rattle.cell_listing.proofs.Orders.{same-ids}
 use Rattle.cell_listing.proofs.TheIds.{the-ids, no-other-ids}
 use Rattle.promises.specs.CellView.{Call, call, CellList, Shown, CellView}
-use Rattle.promises.proofs.Runs.{given-accepted, given-records}
+use Rattle.grid_run.proofs.Given.{given-accepted, given-records}
 
 module _ (l : List Command) (acc : Accepted (listing l)) where
   abbrev S : Listing
@@ -42,8 +42,8 @@ module _ (l : List Command) (acc : Accepted (listing l)) where
       -- what is said of the records in any order is said of them as l lists them
       as-listed : {exit : List ℕ} {x : Returned} → Call l g column row before exit x → Ends (listReturns accepted S g column row (length before)) (idBytes ids) before x exit
       as-listed (call {v} {S = T} r i h) =
-          let e = given-accepted l acc i in
-          let c = same-ids (given-records l acc i) acc g (cell column row) in
+          let e = given-accepted acc i in
+          let c = same-ids (given-records acc i) acc g (cell column row) in
           let q : listReturns v T g column row (length before) ≡ listReturns accepted S g column row (length before) = rw (e, c) refl in
           (h .answer ∙ q, rw (q, ← c) at (h .buffer))
 

@@ -1,7 +1,7 @@
 -- `desk`: what specs/Desk.antt says holds of every accepted sheet; of one in bytes and of records handed in by `of-bytes` and `of-records` in Sheets.antt.
 use mathlib.Core.Path.{_≡_, refl, sym, ap, ap₂, _∙_, subst}
 use mathlib.Core.Bool.{Bool, true, false, cond}
-use mathlib.Core.List.{List, [], _∷_, _++_, append-nil, Permᴰ·symm}
+use mathlib.Core.List.{List, [], _∷_, _++_, append-nil}
 use Prim.Native.Nat.{ℕ, _+_, _-_, _*_, _≤_, _<_, min}
 use native.Mathlib.Omega.{arith}
 use borrow.Author.Tests.{leb-true, leb-false, le-leb}
@@ -12,13 +12,12 @@ use Rattle.sheet.specs.Accepted.{Accepted}
 use Rattle.sheet.specs.Format.{encodeAll}
 use Rattle.sheet.specs.HandedIn.{handedIn, checkOf, sheetOf}
 use Rattle.sheet.specs.Lent.{andThen}
-use Rattle.sheet.specs.Listing.{Listing, listing}
+use Rattle.sheet.specs.Listing.{Listing, listing, Reordered}
 use Rattle.sheet.specs.Returned.{Returned, accepted, gives, refused, verdict}
 use Rattle.sheet.specs.Scan.{commandsOf}
 use Rattle.sheet.proofs.Lent.{said-given, said-short}
-use Rattle.sheet.proofs.Lists.{perm-mem}
-use Rattle.sheet.proofs.Order.{Reordered, reordered, accepted-reordered}
-use Rattle.sheet.proofs.RoundTrip.{AllFit, order-verdict, read-back, listed, handed-back}
+use Rattle.sheet.proofs.Order.{accepted-reordered}
+use Rattle.sheet.proofs.RoundTrip.{read-back, handed-back}
 use Rattle.sheet_reader.specs.Reading.{ifAccepted, recordsOf}
 use Rattle.rule.specs.declared.Row.{Row}
 use Rattle.rule.specs.RowBytes.{rollBytes, rowWidth}
@@ -36,7 +35,9 @@ use Rattle.session.proofs.Parts.{take-min}
 use Rattle.session.proofs.Steps.{Steps, handed, advanced, not-advanced, reset, so-far}
 use Rattle.promises.specs.Desk as keys
 use Rattle.promises.specs.Desk.{Key, Opened, over-bytes, over-records, adds, Pressed, cursor, View, SameView, Desk}
-use Rattle.promises.proofs.Sheets.{commands-fit, scanned, checks}
+use Rattle.grid_run.specs.Demand.{in-bytes, in-records}
+use Rattle.grid_run.proofs.Given.{given-accepted}
+use Rattle.promises.proofs.Sheets.{checks}
 
 -- ---- what an answer adds to the screen
 
@@ -85,23 +86,21 @@ module _ (l : List Command) (acc : Accepted (listing l)) where
 
   begin : (r : Begun) → Opened l r → Begin r
   unfolding cursor
-  begin r (over-bytes k p h) =
-      let v = order-verdict p (commands-fit l acc) (scanned l acc) in
-      let f : AllFit k = λ c i. commands-fit l acc c (perm-mem (Permᴰ·symm p) c i) in
+  begin r (over-bytes k f p h) =
+      let v = given-accepted acc (in-bytes k f p) in
       let T = listing k in
       let q : recordsOf (encodeAll k) ≡ T = ap (λ (x : Returned). ifAccepted x (listing (commandsOf (encodeAll k)))) v ∙ ap listing (read-back f) in
-      let c = checks T (accepted-reordered (reordered p) acc) in
+      let c = checks T (accepted-reordered p acc) in
       let b : Begins (checkOf (sheetOf T)) (begun (sheetOf T)) r = record { answer = h .answer ∙ v ∙ sym c; session = h .session ∙ ap (λ (U : Listing). begun (sheetOf U)) q } in
       record {
         answer = h .answer ∙ v;
-        reached = record { T = T; same = reordered p; asked = 0; steps = handed (sheetOf T) r b (h .answer ∙ v) (handed-back T); place = omega arith };
+        reached = record { T = T; same = p; asked = 0; steps = handed (sheetOf T) r b (h .answer ∙ v) (handed-back T); place = omega arith };
       }
   begin r (over-records sheet p h) =
-      let v = order-verdict p (commands-fit l acc) (scanned l acc) in
-      let q = subst (λ (U : Listing). Reordered S U) (listed (handedIn sheet)) (reordered p) in
+      let v = given-accepted acc (in-records sheet p) in
       record {
         answer = h .answer ∙ v;
-        reached = record { T = handedIn sheet; same = q; asked = 0; steps = handed sheet r h (h .answer ∙ v) refl; place = omega arith };
+        reached = record { T = handedIn sheet; same = p; asked = 0; steps = handed sheet r h (h .answer ∙ v) refl; place = omega arith };
       }
 
   -- ---- a reached session

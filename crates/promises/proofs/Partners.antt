@@ -7,12 +7,11 @@ use Rattle.sheet.specs.Listing.{listing}
 use Rattle.grid_run.proofs.Demand.{demand}
 use Rattle.promises.specs.Partners.{Partners}
 use Rattle.promises.proofs.Runs.{left, front}
-use Rattle.promises.proofs.Sheets.{commands-fit, scanned}
 
 pub partners : (l : List Command) → Accepted (listing l) → Partners l
 partners l acc =
     record {
-      demand = demand l (commands-fit l acc) (scanned l acc);
+      demand = demand l acc;
       same-answer = λ c d h k. left l acc c h .0 ∙ sym (left l acc d k .0);
       same-rows = λ c d h k. front l acc c h ∙ sym (front l acc d k);
     }

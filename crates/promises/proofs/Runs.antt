@@ -1,21 +1,18 @@
 -- What the runs of an accepted sheet leave. Main theorems: `left`, with room for it every run leaves the one roll; `front`, its bytes stand at the buffer's start;
 -- `in-roll` and `reads`, the rows read back are the roll's own.
 use mathlib.Core.Path.{_≡_, refl, sym, ap, _∙_, subst}
-use mathlib.Core.List.{List, _++_, Permᴰ·symm}
+use mathlib.Core.List.{List, _++_}
 use Prim.Native.Nat.{ℕ, _*_, _<_}
 use native.Mathlib.Omega.{arith}
 use lib.ListN.{length, take, drop, getD}
 use lib.Seq.{take-at}
 use Rattle.sheet.specs.declared.Command.{Command}
 use Rattle.sheet.specs.Accepted.{Accepted}
-use Rattle.sheet.specs.HandedIn.{handedIn}
 use Rattle.sheet.specs.Lent.{andThen, after}
-use Rattle.sheet.specs.Listing.{Listing, listing, _∈_}
+use Rattle.sheet.specs.Listing.{Listing, listing, _∈_, Reordered}
 use Rattle.sheet.specs.Returned.{Returned, accepted, gives}
 use Rattle.sheet.proofs.Lent.{Ends, said-given, put, gave}
-use Rattle.sheet.proofs.Lists.{mem-at, at-mem, perm-mem, perm-length}
-use Rattle.sheet.proofs.Order.{Reordered, reordered}
-use Rattle.sheet.proofs.RoundTrip.{order-verdict, read-back, listed}
+use Rattle.sheet.proofs.Lists.{mem-at, at-mem, perm-length}
 use Rattle.rule.specs.declared.Row.{Row}
 use Rattle.rule.specs.declared.Ending.the-variants.{Edge}
 use Rattle.rule.specs.RowBytes.{rollBytes, rowWidth}
@@ -27,13 +24,12 @@ use Rattle.rule.proofs.Widths.{roll-fits}
 use Rattle.cells.specs.Grid.{figureCheck}
 use Rattle.cells.proofs.Figures.{figure-is, figure-checked}
 use Rattle.plain_run.specs.Rolled.{rollReturns}
-use Rattle.grid_run.specs.Demand.{Given, in-bytes, in-records}
+use Rattle.grid_run.proofs.Given.{given-accepted, given-records}
 use Rattle.row.specs.declared.Stored.the-variants.{Found}
 use Rattle.row.specs.Stored.{rowIn}
 use Rattle.row.proofs.ReadBack.{row-back}
 use Rattle.grid_run.specs.GridRolled.{Reported}
 use Rattle.promises.specs.Runs.{Run, plain, grid, rowCount, Room, Reads, InRoll}
-use Rattle.promises.proofs.Sheets.{commands-fit, scanned}
 
 blank : Row
 blank = record { id = 0; at = record { num = 0; den = 1 }; x = 0; y = 0; ending = Edge }
@@ -41,17 +37,6 @@ blank = record { id = 0; at = record { num = 0; den = 1 }; x = 0; y = 0; ending 
 module _ (l : List Command) (acc : Accepted (listing l)) where
   abbrev S : Listing
   S = listing l
-
-  -- ---- in whatever order the sheet is given
-
-  pub given-accepted : {v : Returned} {T : Listing} → Given l v T → v ≡ accepted
-  given-accepted (in-bytes k p) = order-verdict p (commands-fit l acc) (scanned l acc)
-  given-accepted (in-records s p) = order-verdict p (commands-fit l acc) (scanned l acc)
-
-  pub given-records : {v : Returned} {T : Listing} → Given l v T → Reordered S T
-  given-records (in-bytes k p) =
-      subst (λ (z : List Command). Reordered S (listing z)) (sym (read-back {l = k} (λ c m. commands-fit l acc c (perm-mem (Permᴰ·symm p) c m)))) (reordered p)
-  given-records (in-records s p) = subst (λ (z : Listing). Reordered S z) (listed (handedIn s)) (reordered p)
 
   -- ---- what a run leaves
 
@@ -68,9 +53,9 @@ module _ (l : List Command) (acc : Accepted (listing l)) where
 
   ran : {before exit : List ℕ} {x : Returned} → Run l before exit x → Ends (rollReturns accepted S (length before)) (rollBytes (rollOf S)) before x exit
   unfolding andThen
-  ran {before} {exit} (plain r i h) = as-listed before exit _ (given-accepted i) (given-records i) (h .answer) (h .buffer)
+  ran {before} {exit} (plain r i h) = as-listed before exit _ (given-accepted acc i) (given-records acc i) (h .answer) (h .buffer)
   ran {before} {exit} (grid {g = g} r i f h) =
-      as-listed before exit _ (ap (λ (v : Returned). andThen v (figureCheck g)) (given-accepted i) ∙ figure-checked g (figure-is f)) (given-records i) (ap (λ (z : Reported). z .returned) (h .answer)) (h .buffer)
+      as-listed before exit _ (ap (λ (v : Returned). andThen v (figureCheck g)) (given-accepted acc i) ∙ figure-checked g (figure-is f)) (given-records acc i) (ap (λ (z : Reported). z .returned) (h .answer)) (h .buffer)
 
   pub left : {before exit : List ℕ} {x : Returned} → Run l before exit x → Room l before → (x ≡ gives (rowCount l)) × (exit ≡ rollBytes (rollOf S) ++ drop (length (rollBytes (rollOf S))) before)
   left {before} c h =

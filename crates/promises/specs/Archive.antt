@@ -43,15 +43,20 @@ pub record Again (sheet : Sheet) (file : List ℕ) : Type 0 where
       (q : Reading) {before exit : List ℕ} {w : Answer} → ReadFrom file q → Writes (q .sheet) before exit w → length file ≤ length before
       → take (length file) exit ≡ file
 
-pub record Archive (s : List ℕ) : Type 0 where
-  -- a sheet that was read can be written, in as many bytes
-  pub as-long :
-      (r : Reading) {before exit : List ℕ} {w : Answer} → ReadFrom s r → Writes (r .sheet) before exit w → length s ≤ length before
-      → answered w ≡ gives (length s)
+-- the sheet in the bytes s was read, and then written
+pub record Kept (s : List ℕ) (sheet : Sheet) (exit : List ℕ) (w : Answer) : Type 0 where
+  -- in no more bytes: a start time of 0 that s lists by 03 is written by 01
+  pub size : ℕ
+  pub no-longer : size ≤ length s
+  pub answer : answered w ≡ gives size
   -- and that is the same sheet
-  pub again :
+  pub again : Again sheet (take size exit)
+
+pub record Archive (s : List ℕ) : Type 0 where
+  -- a sheet that was read can be written
+  pub kept :
       (r : Reading) {before exit : List ℕ} {w : Answer} → ReadFrom s r → Writes (r .sheet) before exit w → length s ≤ length before
-      → Again (r .sheet) (take (length s) exit)
+      → Kept s (r .sheet) exit w
   -- the time in each row of the sheet is a fraction in lowest terms
   pub lowest : (r : Row) → InRoll (commandsOf s) r → (0 < r .at .den) × Lowest (r .at .num) (r .at .den)
   -- and the same time in a row of any other sheet is the same fraction

@@ -2,16 +2,15 @@
 -- on any order of the sheet's commands the same rows are shown and the cursor stands on the same fissure (SHEETS 7.7). Proved of every accepted sheet as `desk` in proofs/Desk.antt.
 use mathlib.Core.Path.{_≡_}
 use mathlib.Core.Bool.{cond}
-use mathlib.Core.List.{List, [], _∷_, _++_, List·Permᴰ}
+use mathlib.Core.List.{List, [], _∷_, _++_}
 use Prim.Native.Nat.{ℕ, _+_, _-_, _*_, _≤_, min}
 use lib.Dec.{leb}
 use lib.ListN.{length, take, drop}
 use Rattle.sheet.specs.declared.Command.{Command}
 use Rattle.sheet.specs.declared.Sheet.{Sheet}
-use Rattle.sheet.specs.Format.{encodeAll}
+use Rattle.sheet.specs.Format.{AllFit, encodeAll}
 use Rattle.sheet.specs.HandedIn.{handedIn, checkOf, sheetOf}
-use Rattle.sheet.specs.Listing.{listing}
-use Rattle.sheet.specs.Ordered.{commandsIn}
+use Rattle.sheet.specs.Listing.{listing, Reordered}
 use Rattle.sheet.specs.Returned.{accepted, gives, verdict}
 use Rattle.sheet.specs.Scan.{verdictOf}
 use Rattle.sheet_reader.specs.Reading.{recordsOf}
@@ -32,10 +31,10 @@ pub data Key : Type 0 where
   advance : (n room : ℕ) → Key
   reset : Key
 
--- a session opened on the sheet of commands l: over bytes that list them in any order, or over records
+-- a session opened on the sheet of commands l: over bytes that list its records in any order, a start time of 0 by 01 or by 03, or over records
 pub data Opened (l : List Command) (r : Begun) : Type 0 where
-  over-bytes : (k : List Command) → List·Permᴰ l k → Begins (verdictOf (encodeAll k)) (begun (sheetOf (recordsOf (encodeAll k)))) r → Opened l r
-  over-records : (sheet : Sheet) → List·Permᴰ l (commandsIn (handedIn sheet)) → Begins (checkOf sheet) (begun sheet) r → Opened l r
+  over-bytes : (k : List Command) → AllFit k → Reordered (listing l) (listing k) → Begins (verdictOf (encodeAll k)) (begun (sheetOf (recordsOf (encodeAll k)))) r → Opened l r
+  over-records : (sheet : Sheet) → Reordered (listing l) (handedIn sheet) → Begins (checkOf sheet) (begun sheet) r → Opened l r
 
 -- what an advance adds to the screen: the rows that it says it wrote
 abbrev pub adds : Answer → List ℕ → List ℕ

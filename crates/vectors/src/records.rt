@@ -1,6 +1,6 @@
 // Records handed in: the check's answer, then four lines as for a sheet's bytes, with the refusal wherever the call refuses.
-// A frame has the numbers of tracks and of walls (64 bits each), how many tracks are listed (16), the listed tracks (8 bytes each) and the
-// listed walls (10 each, to the end). Places of the arrays behind the listed ones are blank.
+// A frame has the numbers of tracks and of walls (64 bits each), how many tracks are listed (16), the listed tracks and the listed walls (10 bytes
+// each, the walls to the end). Places of the arrays behind the listed ones are blank.
 ghost use Prim.Native.Nat.{_+_, _≤_, _<_};
 ghost use lib.ListN.{length};
 use crate::answers::print_cells;
@@ -17,14 +17,22 @@ use sheet::Verdict;
 use sheet::Wall;
 
 fn track_at(s: &[u8], at: usize) -> Track
-    requires { ⌜ at + 8 ≤ length (now s) ⌝ }
+    requires { ⌜ at + 10 ≤ length (now s) ⌝ }
 {
     let id = get16(s, at);
     let x = get16(s, at + 2);
     let y = get16(s, at + 4);
     let vx = signed(s[at + 6]);
     let vy = signed(s[at + 7]);
-    Track { id, x, y, vx, vy }
+    let start = get16(s, at + 8);
+    Track {
+        id,
+        x,
+        y,
+        vx,
+        vy,
+        start,
+    }
 }
 
 fn wall_at(s: &[u8], at: usize) -> Wall
@@ -46,14 +54,15 @@ fn tracks_in(list: &[u8]) -> [Track; 256] {
         y: 0,
         vx: 0,
         vy: 0,
+        start: 0,
     };
     let mut tracks = [blank; 256];
     let mut i = 0;
     while i < 256 {
-        if list.len() < 8 * i + 8 {
+        if list.len() < 10 * i + 10 {
             return tracks;
         }
-        tracks[i] = track_at(list, 8 * i);
+        tracks[i] = track_at(list, 10 * i);
         i += 1;
     }
     tracks
@@ -153,7 +162,7 @@ pub fn answer(s: &[u8]) {
     if s.len() < 18 {
         return;
     }
-    let walls_at = 18 + 8 * (get16(s, 16) as usize);
+    let walls_at = 18 + 10 * (get16(s, 16) as usize);
     if s.len() < walls_at {
         return;
     }
