@@ -1,5 +1,5 @@
--- What can be compared: rows (`small-timely`), ages and what they are shifted to (`young-timely`, `later-timely`), lowest terms (`lowest-timely`).
-use Prim.Native.Nat.{ℕ, _+_, _*_, _^_, _≤_}
+-- How large times are: those of rows in powers of two (`small-below`, `small-product`). What can be compared: rows (`small-timely`), ages and what they are shifted to (`young-timely`, `later-timely`), lowest terms (`lowest-timely`).
+use Prim.Native.Nat.{ℕ, _+_, _*_, _^_, _≤_, _<_}
 use native.Mathlib.Nat.{mul-le-mul}
 use native.Mathlib.Omega.{arith}
 use lib.Dec.{ltb→lt}
@@ -13,6 +13,13 @@ use Rattle.fraction.proofs.LowestTerms.{lowestOf-num, lowestOf-den, low
 
 pub small-timely : {t : Fraction} → Small t → Timely t
 small-timely h = record { num-in = omega (arith, h .num-in); den-in = omega (arith, h .den-in); den-pos = h .den-pos }
+
+-- the times of rows in powers of two
+pub small-below : {t : Fraction} → Small t → (t .num < 2 ^ 31) × (t .den < 2 ^ 19)
+small-below h = (omega (arith, h .num-in), omega (arith, h .den-in))
+
+pub small-product : {t u : Fraction} → Small t → Small u → t .num * u .den < 2 ^ 50
+small-product h k = omega (arith, mul-le-mul (h .num-in) (k .den-in))
 
 pub young-timely : {t : Fraction} → Young t → Timely t
 young-timely h = record { num-in = omega (arith, h .num-in); den-in = omega (arith, h .den-in); den-pos = h .den-pos }
