@@ -61,12 +61,13 @@ pub fn grid_roll(sheet: Sheet, g: u64, out: &mut [u8]) -> GridRolled
 pub fn grid_roll_bytes(s: &[u8], g: u64, out: &mut [u8]) -> GridRolled
     ensures { λ r. ⌜ GridRolls (verdictOf (now (s .entry))) (listing (commandsOf (now (s .entry)))) g (now (out .entry)) (now (out .exit)) r ⌝ }
 {
-    let r = sheet_reader::read(s);
-    let v = r.verdict;
-    let records = r.sheet;
+    let v = sheet_reader::scan(s);
     match v {
-        Verdict::Refused(number, at) => GridRolled::Refused(number, at),
-        Verdict::Accepted => rows(records, g, out),
+        Verdict::Refused(number, place) => GridRolled::Refused(number, place),
+        Verdict::Accepted => {
+            let sheet = sheet_reader::load(s);
+            rows(sheet, g, out)
+        }
     }
 }
 

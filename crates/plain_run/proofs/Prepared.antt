@@ -1,4 +1,4 @@
--- Records handed in that the check accepts are ready for the run (`handed-ready`), and so are records that were read (`read-ready`).
+-- Records handed in that the check accepts are ready for the run (`handed-ready`), and so are records that were read (`load-ready`, `read-ready`).
 use mathlib.Core.Path.{_≡_, sym, ap, _∙_, subst}
 use mathlib.Core.Logic.{_⊎_, inl, inr}
 use mathlib.Core.List.{List, [], _∷_, _++_, map, List·Memᴰ·cases-cons, List·Memᴰ·not-nil, List·Memᴰ·append-cases}
@@ -98,11 +98,13 @@ module _ (s : Sheet) {vs : List Val} (typed : Is (row the-type) s vs) where
 filled-long : {A : Type 0} (d : A) (l : List A) → length l ≤ 256 → length (filled d l) ≡ 256
 filled-long d l h = length-append l (replicate (256 - length l) d) ∙ ap (λ n. length l + n) (length-replicate (256 - length l) d) ∙ omega arith
 
-pub read-ready : {b : List ℕ} {s : Sheet} → AllBytes b → verdictOf b ≡ accepted → s ≡ sheetOf (recordsOf b) → Handed s × (handedIn s ≡ listing (commandsOf b))
-read-ready {b} {s} h e r =
+pub load-ready : {b : List ℕ} {s : Sheet} → AllBytes b → verdictOf b ≡ accepted → s ≡ sheetOf (listing (commandsOf b)) → Handed s × (handedIn s ≡ listing (commandsOf b))
+load-ready {b} {s} h e q =
     let L = listing (commandsOf b) in
-    let q : s ≡ sheetOf L = r ∙ ap (λ (v : Returned). sheetOf (ifAccepted v L)) e in
     let acc = accepted-records b h e in
     let back : handedIn (sheetOf L) ≡ L = handed-back L in
     subst (λ (z : Sheet). Handed z × (handedIn z ≡ L)) (sym q)
     (record { accepted = subst Accepted (sym back) acc; tracks-long = filled-long noTrack (L .tracks) (acc .few-tracks); walls-long = filled-long noWall (L .walls) (acc .few-walls); tracks-in = acc .few-tracks; walls-in = acc .few-walls }, back)
+
+pub read-ready : {b : List ℕ} {s : Sheet} → AllBytes b → verdictOf b ≡ accepted → s ≡ sheetOf (recordsOf b) → Handed s × (handedIn s ≡ listing (commandsOf b))
+read-ready {b} h e r = load-ready h e (r ∙ ap (λ (v : Returned). sheetOf (ifAccepted v (listing (commandsOf b)))) e)

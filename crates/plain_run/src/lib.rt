@@ -39,11 +39,12 @@ pub fn plain_roll(sheet: Sheet, out: &mut [u8]) -> Answer
 pub fn plain_roll_bytes(s: &[u8], out: &mut [u8]) -> Answer
     ensures { λ r. ⌜ Rolls (verdictOf (now (s .entry))) (listing (commandsOf (now (s .entry)))) (now (out .entry)) (now (out .exit)) r ⌝ }
 {
-    let r = sheet_reader::read(s);
-    let v = r.verdict;
-    let sheet = r.sheet;
+    let v = sheet_reader::scan(s);
     match v {
         Verdict::Refused(number, place) => Answer::Refused(number, place),
-        Verdict::Accepted => rows(sheet, out),
+        Verdict::Accepted => {
+            let sheet = sheet_reader::load(s);
+            rows(sheet, out)
+        }
     }
 }

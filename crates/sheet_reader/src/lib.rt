@@ -229,7 +229,7 @@ fn blank() -> Sheet
 }
 
 // The records of an accepted sheet, stored in place.
-fn load(s: &[u8]) -> Sheet
+pub fn load(s: &[u8]) -> Sheet
     requires { ⌜ verdictOf (now s) ≡ accepted ⌝ }
     ensures { λ r. ⌜ r ≡ sheetOf (listing (commandsOf (now (s .entry)))) ⌝ }
 {

@@ -1,4 +1,4 @@
--- `plain_roll_bytes` rolls a sheet's bytes: what the reader gives of an accepted sheet is ready for the run.
+-- `plain_roll_bytes` rolls a sheet's bytes: the records of an accepted sheet are ready for the run.
 use mathlib.Core.Path.{sym, ap, _∙_}
 use borrow.Author.Needs.{needs}
 use native.Mathlib.Omega.{arith}
@@ -6,12 +6,12 @@ use Rattle.sheet.specs.Listing.{listing}
 use Rattle.sheet.specs.Returned.{verdict}
 use Rattle.sheet.specs.Scan.{commandsOf}
 use Rattle.plain_run.proofs.Outcome.{as-refused, as-accepted, of-same}
-use Rattle.plain_run.proofs.Prepared.{read-ready}
+use Rattle.plain_run.proofs.Prepared.{load-ready}
 use Rattle.plain_run.proofs.plain_roll_bytes.Statement.{statement}
 use Rattle.plain_run.proofs.plain_roll_bytes.Tie as tie
 
-read-requires : tie.Need-read-requires
-read-requires c κs = search needs
+scan-requires : tie.Need-scan-requires
+scan-requires c κs = search needs
 
 enum-known-v : tie.Need-enum-known-v
 enum-known-v c = search needs
@@ -19,16 +19,19 @@ enum-known-v c = search needs
 enum-told : tie.Need-enum-told
 enum-told c = search needs
 
+load-requires : tie.Need-load-requires
+load-requires c κs = sym (c .before .before .scan .ensures) ∙ ap verdict (c .enum-told .given .1)
+
 rows-requires : tie.Need-rows-requires
 rows-requires c κs =
     let k = c .before .before .before .before .before .before .shared-slice-known .given in
-    let r = c .before .before .before .before .read .ensures in
-    read-ready (record { below = λ i. omega (arith, k i) }) (sym (r .judged) ∙ ap verdict (c .before .enum-told .given .1)) (r .records) .0
+    let ok = sym (c .before .before .before .before .scan .ensures) ∙ ap verdict (c .before .before .enum-told .given .1) in
+    load-ready (record { below = λ i. omega (arith, k i) }) ok (c .before .load .ensures) .0
 
 returns : tie.Need-returns
 returns c =
-    let a = c .before .before .before .before .before .before .before .args in
-    as-refused (listing (commandsOf (a .s .now))) (a .out .now) _ _ (sym (c .before .before .before .before .read .ensures .judged) ∙ ap verdict (c .before .v .given .1))
+    let a = c .before .before .before .before .before .before .args in
+    as-refused (listing (commandsOf (a .s .now))) (a .out .now) _ _ (sym (c .before .before .before .scan .ensures) ∙ ap verdict (c .before .v .given .1))
 
 same-length : tie.Need-same-length
 same-length c = search needs
@@ -37,11 +40,10 @@ returns-2 : tie.Need-returns-2
 returns-2 c =
     let a = c .before .before .before .before .before .before .before .before .before .before .args in
     let k = c .before .before .before .before .before .before .before .before .before .shared-slice-known .given in
-    let r = c .before .before .before .before .before .before .before .read .ensures in
-    let ok = sym (r .judged) ∙ ap verdict (c .before .before .before .before .enum-told .given .1) in
-    let same = read-ready (record { below = λ i. omega (arith, k i) }) ok (r .records) .1 in
+    let ok = sym (c .before .before .before .before .before .before .before .scan .ensures) ∙ ap verdict (c .before .before .before .before .before .enum-told .given .1) in
+    let same = load-ready (record { below = λ i. omega (arith, k i) }) ok (c .before .before .before .before .load .ensures) .1 in
     as-accepted (listing (commandsOf (a .s .now))) (a .out .now) ok (of-same same (c .before .before .rows .ensures))
 
 pub plain-roll-bytes-spec : {M : Type 1} → statement M
 plain-roll-bytes-spec =
-    tie.close (tie.spec read-requires enum-known-v enum-told rows-requires returns same-length returns-2)
+    tie.close (tie.spec scan-requires enum-known-v enum-told load-requires rows-requires returns same-length returns-2)
