@@ -148,11 +148,11 @@ fn cell_entry(a: Track, s: u64, k: Cell) -> Onset
     requires { ⌜ TrackOk a × (s ≤ 4096) × Near k ⌝ }
     ensures { λ r. ⌜ Gives (onsetOf (entry a s k)) r ⌝ }
 {
-    let by_age = later(
+    let reached = later(
         column_entry(a.x, a.vx, s, k.column),
         column_entry(a.y, a.vy, s, k.row),
     );
-    opened(by_age, a.start)
+    opened(reached, a.start)
 }
 
 // From when on it has left the cell.
@@ -160,11 +160,11 @@ fn cell_exit(a: Track, s: u64, k: Cell) -> Onset
     requires { ⌜ TrackOk a × (s ≤ 4096) × Near k ⌝ }
     ensures { λ r. ⌜ Gives (onsetOf (exit a s k)) r ⌝ }
 {
-    let by_age = sooner(
+    let left = sooner(
         column_exit(a.x, a.vx, s, k.column),
         column_exit(a.y, a.vy, s, k.row),
     );
-    opened(by_age, a.start)
+    opened(left, a.start)
 }
 
 // When the trace up to `end` enters the cell (SHEETS 6.4). It has a point there if the cell is entered before it is left and before the trace's end.
