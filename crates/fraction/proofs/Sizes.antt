@@ -9,6 +9,7 @@ use Rattle.fraction.specs.declared.Fraction.{Fraction}
 use Rattle.fraction.specs.Lowest.{lowestOf}
 use Rattle.fraction.specs.Sizes.{greatestPart, greatestNum, Young, Small, Timely}
 use Rattle.fraction.specs.Time.{laterBy}
+use Rattle.fraction.proofs.Bounds.{fits-nat}
 use Rattle.fraction.proofs.LowestTerms.{lowestOf-num, lowestOf-den, lowestOf-reduced}
 
 pub small-timely : {t : Fraction} → Small t → Timely t
@@ -30,6 +31,9 @@ later-in m d n h i k = omega (arith, mul-le-mul k i)
 
 pub later-timely : {t : Fraction} (n : ℕ) → Young t → n ≤ 4095 → Timely (laterBy n t)
 later-timely {t} n h k = record { num-in = later-in (t .num) (t .den) n (h .num-in) (h .den-in) k; den-in = omega (arith, h .den-in); den-pos = h .den-pos }
+
+pub scaled-fits : (d n : ℕ) → d ≤ greatestPart → n ≤ 4095 → Fits w64 (n * d)
+scaled-fits d n h k = fits-nat w64 n d 4095 greatestPart k h tt
 
 pub later-fits : (m d n : ℕ) → m ≤ greatestPart → d ≤ greatestPart → n ≤ 4095 → Fits w64 (m + n * d)
 later-fits m d n h i k = record { fits = omega (arith, later-in m d n h i k, ltb→lt greatestNum (2 ^ bits w64) tt) }

@@ -16,7 +16,7 @@ later-requires c κs = search needs
 
 opened-requires : tie.Need-opened-requires
 opened-requires c κs =
-    (let p = c .before .before .before .column-entry .ensures in later-has Early (p .early) (c .before .column-entry2 .ensures .early) (c .later .ensures), c .before .before .before .before .before .pre .0 .start-in)
+    (let p = c .before .before .before .column-entry .ensures in later-has Early (p .early) (c .before .column-entry2 .ensures .early) (c .later .ensures), search needs)
 
 returns : tie.Need-returns
 returns c =

@@ -21,7 +21,7 @@ opened-requires c κs =
     let a = o .args .a in
     let bx = bounded-back w8 (a .vx) (o .pre .0 .vx-in) tt in
     let by = bounded-back w8 (a .vy) (o .pre .0 .vy-in) tt in
-    (cross-early a (o .args .s) (o .args .k) (rw bx at (c .before .before .before .before .before .before .column-exit .ensures)) (rw by at (c .before .before .before .before .column-exit2 .ensures)) (rw (bx, by) at (c .before .turned .ensures)), o .pre .0 .start-in)
+    (cross-early a (o .args .s) (o .args .k) (rw bx at (c .before .before .before .before .before .before .column-exit .ensures)) (rw by at (c .before .before .before .before .column-exit2 .ensures)) (rw (bx, by) at (c .before .turned .ensures)), search needs)
 
 returns : tie.Need-returns
 returns c =
