@@ -1,6 +1,6 @@
 -- The listing's order is the order in which the grid run's events for the cell leave its queue, up to equal times (SHEETS 6.8, 6.11): `leaves-as-listed` and `listed-as-left`.
 -- They speak of one turn of the run, which takes an event out of the queue (`Happened`, from the contract of `grid_turn::turn`), and of a tip with a point in that cell that has not entered it so far: its own event for it is still to leave.
--- The cell of a start has no event: it is entered at time 0 (`first-entered` of crate `cells`).
+-- The cell of a start has no event: it is entered at its start time (`first-entered` of crate `cells`).
 use mathlib.Core.Path.{_≡_, subst}
 use mathlib.Core.Logic.{_⊎_, inl, inr}
 use Prim.Native.Nat.{ℕ, _<_}

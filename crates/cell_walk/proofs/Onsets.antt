@@ -84,9 +84,6 @@ module _ (P : Onset → Type 0) {k l r : Onset} (h : P k) (i : P l) where
   unfolding soonerOf
   sooner-has e = subst P (sym e) (one-of P (priorOf l k) h i)
 
-pub early-ready : {k : Onset} → Early k → Ready k
-early-ready h = record { num-in = omega (arith, h .num-in); den-in = omega (arith, h .den-in); late-in = h .late-in }
-
 pub is-before : (k l : Cut) → before k l ≡ priorOf (onsetOf k) (onsetOf l)
 unfolding before priorOf
 is-before k l = refl

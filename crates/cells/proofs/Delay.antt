@@ -1,12 +1,12 @@
 -- A cut of a tip's ages as one of the sheet's times, n units later (`plusᶜ`): `delayed-after` and `after-delayed`, what comes after it; `delayed-le`, `delayed-lt` and `lt-delayed`, the order is kept;
--- `delayed-past` and `past-delayed`, against the cut just after a time.
+-- `past-delayed`, against the cut just after a time.
 use mathlib.Core.Path.{_≡_}
-use Prim.Native.Nat.{ℕ, _+_, _*_, _≤_, _<_}
+use Prim.Native.Nat.{ℕ, _+_, _*_, _≤_}
 use native.Mathlib.Nat.{le-of-mul-le-mul-right}
 use native.Mathlib.Omega.{arith}
 use Rattle.fraction.specs.Time.{Time, _≤ᵗ_, fraction, plusᵗ, minusᵗ}
 use Rattle.fraction.proofs.TimeOrder.{≈ᵗ→≤ᵗ, ≈ᵗ-sym}
-use Rattle.fraction.proofs.Shift.{plus-from, plus-minus, minus-plus, minus-le, plus-by}
+use Rattle.fraction.proofs.Shift.{plus-from, minus-plus, minus-le}
 use Rattle.cells.specs.Cut.{Cut, After, plusᶜ, past, _≤ᶜ_, _<ᶜ_}
 use Rattle.cells.proofs.Cut.{after-den, after-mono, not-past, by-past}
 
@@ -49,21 +49,7 @@ module _ (n : ℕ) where
   pub lt-delayed : (k l : Cut) → plusᶜ n k <ᶜ plusᶜ n l → k <ᶜ l
   lt-delayed k l h = record { at = minusᵗ n (h .at); above = after-delayed k (h .above); below = λ a. h .below (delayed-after (after-opened k (h .above)) a) }
 
-  pub le-delayed : (k l : Cut) → plusᶜ n k ≤ᶜ plusᶜ n l → k ≤ᶜ l
-  le-delayed k l h =
-      record {
-        to = λ p a. let e = minus-plus n p in after-mono (≈ᵗ→≤ᵗ e) (after-delayed k (h .to (plusᵗ n p) (delayed-after (plus-from n p) (after-mono (≈ᵗ→≤ᵗ (≈ᵗ-sym e)) a))));
-      }
-
-  -- ---- just after a time, not before n
-
-  pub delayed-past : {k : Cut} (T : Time) → fraction n 1 ≤ᵗ T → k <ᶜ past (minusᵗ n T) → plusᶜ n k <ᶜ past T
-  delayed-past T o h =
-      record {
-        at = plusᵗ n (h .at);
-        above = delayed-after (plus-from n (h .at)) (after-mono (≈ᵗ→≤ᵗ (≈ᵗ-sym (minus-plus n (h .at)))) (h .above));
-        below = not-past (plus-by n o (by-past (h .below)));
-      }
+  -- ---- just after a time
 
   pub past-delayed : (k : Cut) (T : Time) → plusᶜ n k <ᶜ past T → k <ᶜ past (minusᵗ n T)
   past-delayed k T h = record { at = minusᵗ n (h .at); above = after-delayed k (h .above); below = not-past (minus-le n (by-past (h .below))) }

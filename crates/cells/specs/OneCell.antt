@@ -1,5 +1,5 @@
 -- Whether one named cell holds a point of a trace (SHEETS 6.3), as a test, and when the trace enters it (SHEETS 6.4): the tip comes into its column and its row before it leaves one of them, and before its end.
--- Cuts of a tip's ages become cuts of the sheet's times where a cell comes in. Nobody need believe this file: `has-point-true` and `has-point-false` in proofs/Entry.antt tie the test to `HasPoint`, `entry-time` the time to `EnteredAt`.
+-- Cuts of a tip's ages become cuts of the sheet's times in `entry` and `exit`. Nobody need believe this file: `has-point-true` and `has-point-false` in proofs/Entry.antt tie the test to `HasPoint`, `entry-time` the time to `EnteredAt`.
 use mathlib.Core.Bool.{Bool}
 use Prim.Native.Nat.{ℕ, suc, _*_, _-_, _≤_}
 use native.Mathlib.Decide.{decLe}

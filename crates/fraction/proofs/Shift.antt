@@ -14,10 +14,6 @@ module _ (n : ℕ) where
   unfolding plusᵗ
   plus-le h = let k = h .le in record { le = omega arith }
 
-  pub plus-lt : {p q : Time} → p <ᵗ q → plusᵗ n p <ᵗ plusᵗ n q
-  unfolding plusᵗ
-  plus-lt h = let k = h .lt in record { lt = omega arith }
-
   pub plus-from : (p : Time) → fraction n 1 ≤ᵗ plusᵗ n p
   unfolding plusᵗ
   plus-from p = record { le = omega arith }

@@ -1,5 +1,5 @@
 -- How large the parts of a fraction are, by what it is a time of. To widen a bound is to change its line here.
-use Prim.Native.Nat.{ℕ, _≤_, _<_}
+use Prim.Native.Nat.{ℕ, _+_, _*_, _≤_, _<_}
 use Rattle.fraction.specs.declared.Fraction.{Fraction}
 
 -- ---- ages, as a sheet's coordinates and speeds give them
@@ -13,7 +13,7 @@ pub record Young (t : Fraction) : Type 0 where
   pub den-in : t .den ≤ greatestPart
   pub den-pos : 0 < t .den
 
--- ---- the times of rows: below 2 ^ 31 over below 2 ^ 19, so that two of them multiply to less than 2 ^ 50
+-- ---- the times of rows (SHEETS 5.7): below 2 ^ 31 over below 2 ^ 19, so that two of them multiply to less than 2 ^ 50
 
 -- 2 × 63 × 4095: a determinant of a speed and a difference of coordinates
 abbrev pub greatestRowDen : ℕ
@@ -21,7 +21,7 @@ greatestRowDen = 515970
 
 -- the greatest age, and a start time of 4095 over the greatest denominator
 abbrev pub greatestRowNum : ℕ
-greatestRowNum = 2146435200
+greatestRowNum = greatestPart + 4095 * greatestRowDen
 
 pub record Small (t : Fraction) : Type 0 where
   pub num-in : t .num ≤ greatestRowNum

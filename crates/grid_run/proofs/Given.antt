@@ -1,5 +1,5 @@
 -- A sheet as a caller may give it. Main theorems: `given-accepted` and `given-records`, if its records are accepted, so is it, and it has the same records; `records-fit`, accepted records are within their widths.
-use mathlib.Core.Path.{_≡_, sym, ap, _∙_, subst}
+use mathlib.Core.Path.{_≡_, sym, subst}
 use mathlib.Core.List.{List}
 use native.Mathlib.Omega.{arith}
 use Rattle.fraction.proofs.Bounds.{within-fits}
@@ -8,7 +8,7 @@ use Rattle.sheet.specs.declared.Track.{Track}
 use Rattle.sheet.specs.declared.Wall.{Wall}
 use Rattle.sheet.specs.Accepted.{TrackOk, WallOk, Accepted}
 use Rattle.sheet.specs.Format.{TrackFits, WallFits}
-use Rattle.sheet.specs.HandedIn.{handedIn, checkOf}
+use Rattle.sheet.specs.HandedIn.{handedIn}
 use Rattle.sheet.specs.Listing.{Listing, listing, Reordered}
 use Rattle.sheet.specs.Returned.{Returned, accepted}
 use Rattle.sheet.proofs.Order.{accepted-reordered}

@@ -36,7 +36,7 @@ use Rattle.sheet_writer.specs.Written.{formOf}
 use Rattle.rule.specs.declared.Row.{Row}
 use Rattle.rule.specs.Rows.{time}
 use Rattle.rule.proofs.Existence.{roll-of}
-use Rattle.promises.specs.Archive.{Writes, SameRecords, Again, Kept, Archive}
+use Rattle.promises.specs.Archive.{Writes, Again, Kept, Archive}
 use Rattle.promises.specs.Runs.{InRoll}
 use Rattle.promises.proofs.Runs.{in-roll}
 use Rattle.promises.proofs.Sheets.{checks}
@@ -44,12 +44,12 @@ use Rattle.promises.proofs.Sheets.{checks}
 -- ---- the length of a sheet
 
 -- the bytes of the tracks, each by 03 only where its start time is not 0
-opens : List Track → ℕ
-opens [] = 0
-opens (a ∷ l) = width (entry a) + opens l
+track-bytes : List Track → ℕ
+track-bytes [] = 0
+track-bytes (a ∷ l) = width (entry a) + track-bytes l
 
-size : (l : List Command) → AllFit l → opens (tracksOf l) + 11 * length (wallsOf l) + 1 ≤ length (encodeAll l)
-unfolding opens encodeAll tracksOf wallsOf
+size : (l : List Command) → AllFit l → track-bytes (tracksOf l) + 11 * length (wallsOf l) + 1 ≤ length (encodeAll l)
+unfolding track-bytes encodeAll tracksOf wallsOf
 size [] f = omega arith
 size (AddTrack a q ∷ l) f =
     simp length-append (omega (arith, encode-length (AddTrack a q), size l (λ c m. f c (List·Memᴰ·tail m)), least a q (f (AddTrack a q) (List·Memᴰ·head refl) .1)))
@@ -59,8 +59,8 @@ size (AddTrack a q ∷ l) f =
     least a true h = entry-most a
 size (AddWall w ∷ l) f = simp length-append (omega (arith, encode-length (AddWall w), size l (λ c m. f c (List·Memᴰ·tail m))))
 
-tracks-size : (ts : List Track) (k : List Command) → length (encodeAll (map entry ts ++ k)) ≡ opens ts + length (encodeAll k)
-unfolding opens encodeAll
+tracks-size : (ts : List Track) (k : List Command) → length (encodeAll (map entry ts ++ k)) ≡ track-bytes ts + length (encodeAll k)
+unfolding track-bytes encodeAll
 tracks-size [] k = omega arith
 tracks-size (a ∷ ts) k = simp length-append (omega (arith, encode-length (entry a), tracks-size ts k))
 
@@ -69,7 +69,7 @@ unfolding encodeAll
 walls-size [] = refl
 walls-size (w ∷ ws) = simp length-append (omega (arith, encode-length (AddWall w), walls-size ws))
 
-listed-size : (S : Listing) → length (encodeAll (commandsIn S)) ≡ opens (S .tracks) + 11 * length (S .walls) + 1
+listed-size : (S : Listing) → length (encodeAll (commandsIn S)) ≡ track-bytes (S .tracks) + 11 * length (S .walls) + 1
 listed-size S = omega (arith, tracks-size (S .tracks) (map AddWall (S .walls)), walls-size (S .walls))
 
 -- ---- one reading, one writing
@@ -95,12 +95,11 @@ wrote T acc sheet e {before} {exit} {w} h room =
 flip : {S S′ : Listing} → Reordered S S′ → Reordered S′ S
 flip p = record { tracks = Permᴰ·symm (p .tracks); walls = Permᴰ·symm (p .walls) }
 
-same-records : {S S′ : Listing} {a b : Sheet} → a ≡ sheetOf S → b ≡ sheetOf S′ → Reordered S S′ → SameRecords a b
+same-records : {S S′ : Listing} {a b : Sheet} → a ≡ sheetOf S → b ≡ sheetOf S′ → Reordered S S′ → Reordered (handedIn a) (handedIn b)
 same-records {S} {S′} {a} {b} e f p =
     let x : S ≡ handedIn a = sym (ap handedIn e ∙ handed-back S) in
     let y : S′ ≡ handedIn b = sym (ap handedIn f ∙ handed-back S′) in
-    let q = subst (λ (T : Listing). Reordered T (handedIn b)) x (subst (λ (T : Listing). Reordered S T) y p) in
-    record { tracks = q .tracks; walls = q .walls }
+    subst (λ (T : Listing). Reordered T (handedIn b)) x (subst (λ (T : Listing). Reordered S T) y p)
 
 module _ (s : List ℕ) (b : AllBytes s) (e : verdictOf s ≡ accepted) where
   abbrev S : Listing

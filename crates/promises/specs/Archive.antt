@@ -1,7 +1,7 @@
 -- What the archive relies on. It keeps sheets, and one that was read and written again is the same sheet; it keeps times as fractions, and
 -- there is one fraction for one time (SHEETS 2.7, 5.3). Proved of the bytes of every accepted sheet as `archive` in proofs/Archive.antt.
 use mathlib.Core.Path.{_≡_}
-use mathlib.Core.List.{List, List·Permᴰ}
+use mathlib.Core.List.{List}
 use Prim.Native.Nat.{ℕ, _≤_, _<_}
 use lib.ListN.{length, take}
 use Rattle.fraction.specs.Lowest.{Lowest}
@@ -10,7 +10,7 @@ use Rattle.sheet.specs.declared.Command.{Command}
 use Rattle.sheet.specs.declared.Sheet.{Sheet}
 use Rattle.sheet.specs.Accepted.{Accepted}
 use Rattle.sheet.specs.HandedIn.{handedIn}
-use Rattle.sheet.specs.Listing.{listing}
+use Rattle.sheet.specs.Listing.{listing, Reordered}
 use Rattle.sheet.specs.Returned.{accepted, gives, verdict}
 use Rattle.sheet.specs.Scan.{commandsOf}
 use Rattle.sheet_reader.specs.declared.Reading.{Reading}
@@ -27,23 +27,18 @@ pub record Writes (sheet : Sheet) (before exit : List ℕ) (w : Answer) : Type 0
   pub answer : answered w ≡ writeOf sheet (length before)
   pub buffer : exit ≡ bufferAfter sheet before
 
--- the same tracks and the same walls, in whatever order
-pub record SameRecords (a b : Sheet) : Type 0 where
-  pub tracks : List·Permᴰ (handedIn a .tracks) (handedIn b .tracks)
-  pub walls : List·Permᴰ (handedIn a .walls) (handedIn b .walls)
-
 -- a sheet that was read, and written to the bytes `file`
 pub record Again (sheet : Sheet) (file : List ℕ) : Type 0 where
   -- what is written is accepted when it is read
   pub accepts : (q : Reading) → ReadFrom file q → verdict (q .verdict) ≡ accepted
   -- it has the records that were read first
-  pub same : (q : Reading) → ReadFrom file q → SameRecords sheet (q .sheet)
+  pub same : (q : Reading) → ReadFrom file q → Reordered (handedIn sheet) (handedIn (q .sheet))
   -- and written once more it gives the same bytes
   pub still :
       (q : Reading) {before exit : List ℕ} {w : Answer} → ReadFrom file q → Writes (q .sheet) before exit w → length file ≤ length before
       → take (length file) exit ≡ file
 
--- the sheet in the bytes s was read, and then written
+-- the sheet in the bytes s was read, and then written (SHEETS 2.6, 2.7)
 pub record Kept (s : List ℕ) (sheet : Sheet) (exit : List ℕ) (w : Answer) : Type 0 where
   -- in no more bytes: a start time of 0 that s lists by 03 is written by 01
   pub size : ℕ

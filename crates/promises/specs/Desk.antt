@@ -31,7 +31,7 @@ pub data Key : Type 0 where
   advance : (n room : ℕ) → Key
   reset : Key
 
--- a session opened on the sheet of commands l: over bytes that list its records in any order, a start time of 0 by 01 or by 03, or over records
+-- a session opened on the sheet of commands l: over bytes that list its records in any order, a start time of 0 by 01 or by 03, or over records (SHEETS 2.5, 7.1)
 pub data Opened (l : List Command) (r : Begun) : Type 0 where
   over-bytes : (k : List Command) → AllFit k → Reordered (listing l) (listing k) → Begins (verdictOf (encodeAll k)) (begun (sheetOf (recordsOf (encodeAll k)))) r → Opened l r
   over-records : (sheet : Sheet) → Reordered (listing l) (handedIn sheet) → Begins (checkOf sheet) (begun sheet) r → Opened l r

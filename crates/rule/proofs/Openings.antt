@@ -1,5 +1,5 @@
 -- What the rule comes to for tips that open later (SHEETS 4.13), of any family of times that meets it: `opens-on-trace`; `stopped-at-start`, `not-yet-open`, `both-as-it-opens` and `passed-before`, a tip that comes to the
--- start of another; `not-stopped`; `its-start-stops`; `outward-ends`.
+-- start of another; `not-stopped`; `its-start-blocks`; `outward-ends`.
 use mathlib.Core.Path.{_≡_, sym}
 use mathlib.Core.Logic.{_⊎_, inl, inr, _≢_}
 use Prim.Native.Nat.{ℕ, suc, _*_, _<_}
@@ -8,7 +8,7 @@ use lib.IntN.{ℤ, pos, negsuc}
 use Rattle.fraction.specs.Time.{Time, _≤ᵗ_, _<ᵗ_, _≈ᵗ_, minusᵗ}
 use Rattle.fraction.specs.Order.{≈ᵗ-of}
 use Rattle.fraction.specs.Whole.{nat, _⊑_}
-use Rattle.fraction.proofs.TimeOrder.{≤ᵗ-refl, ≤ᵗ-trans, <ᵗ-≤ᵗ-trans, <ᵗ-irrefl, ≈ᵗ→≤ᵗ}
+use Rattle.fraction.proofs.TimeOrder.{≤ᵗ-refl, ≤ᵗ-trans, <ᵗ-≤ᵗ-trans, <ᵗ-irrefl, ≈ᵗ→≤ᵗ, ≈ᵗ-sym}
 use Rattle.sheet.specs.declared.Track.{Track}
 use Rattle.sheet.specs.Accepted.{Accepted}
 use Rattle.sheet.specs.Listing.{Listing, _∈_}
@@ -43,10 +43,6 @@ module _ {S : Listing} {T : ℕ → Time} (m : Meets S T) where
     pub stopped-at-start : {t : Time} → Same a t b (opening b) → opening b ≤ᵗ t → T (a .id) ≤ᵗ t
     stopped-at-start h o = start-ends m i j n h o
 
-    -- b has yet to open: it does not block a there, nor anywhere before it opens
-    pub not-yet-open : {t s : Time} → t <ᵗ opening b → ¬ Blocks S T a t b s
-    not-yet-open h k = <ᵗ-irrefl (<ᵗ-≤ᵗ-trans h (≤ᵗ-trans (k .there .opened-too) (k .not-later)))
-
     -- b opens just then: both end there
     pub both-as-it-opens : Same a (opening b) b (opening b) → opening b ≤ᵗ T (a .id) → Together S T a b (opening b)
     both-as-it-opens h r =
@@ -62,13 +58,20 @@ module _ {S : Listing} {T : ℕ → Time} (m : Meets S T) where
     pub passed-before : {t : Time} → Same b (opening b) a t → t ≤ᵗ opening b → t ≤ᵗ T (a .id) → T (b .id) ≈ᵗ opening b
     passed-before h l r = opens-on-trace j (record { on-sheet = i; other = λ e. n (sym e); not-later = l; running = r; there = h })
 
-  -- a opens where b would have been at s, had it not ended before: b, which moves, does not stop it there
-  pub not-stopped : {a b : Track} {t s : Time} → ¬ ((b .vx ≡ pos 0) × (b .vy ≡ pos 0)) → Same a t b s → T (b .id) <ᵗ s → (r : Time) → ¬ Blocks S T a t b r
+-- ---- what stops a tip that opens, and what its start stops
+
+module _ {S : Listing} {T : ℕ → Time} {a b : Track} where
+  -- a comes, or opens, where b would have been at s, had it not ended before: b, which moves, does not stop it there
+  pub not-stopped : {t s : Time} → ¬ ((b .vx ≡ pos 0) × (b .vy ≡ pos 0)) → Same a t b s → T (b .id) <ᵗ s → (r : Time) → ¬ Blocks S T a t b r
   not-stopped moves h g r k = <ᵗ-irrefl (<ᵗ-≤ᵗ-trans g (≤ᵗ-trans (≈ᵗ→≤ᵗ (same-once moves h (k .there))) (k .running)))
 
-  -- b ended as it opened: its start still stops others
-  pub its-start-stops : {a b : Track} {t : Time} → a ∈ S .tracks → b ∈ S .tracks → b .id ≢ a .id → T (b .id) ≈ᵗ opening b → Same a t b (opening b) → opening b ≤ᵗ t → T (a .id) ≤ᵗ t
-  its-start-stops i j n e h o = start-ends m i j n h o
+  -- b ended as it opened: its start is its trace, and blocks from then on
+  pub its-start-blocks : {t : Time} → b ∈ S .tracks → b .id ≢ a .id → T (b .id) ≈ᵗ opening b → Same a t b (opening b) → opening b ≤ᵗ t → Blocks S T a t b (opening b)
+  its-start-blocks j n e h o = record { on-sheet = j; other = n; not-later = o; running = ≈ᵗ→≤ᵗ (≈ᵗ-sym e); there = h }
+
+  -- b has yet to open: it blocks a nowhere
+  pub not-yet-open : {t s : Time} → t <ᵗ opening b → ¬ Blocks S T a t b s
+  not-yet-open h k = <ᵗ-irrefl (<ᵗ-≤ᵗ-trans h (≤ᵗ-trans (k .there .opened-too) (k .not-later)))
 
 -- ---- on the border, going out
 

@@ -31,3 +31,7 @@ noCommand = AddTrack noTrack false
 pub record InForm {A : Type 0} (f : A → Command) (l : List A) (n : ℕ) (m : List Command) : Type 0 where
   pub long : length m ≡ length l
   pub first : take n m ≡ map f (take n l)
+
+-- the bytes of the longest sheet that records handed in stand for: 256 tracks by 03, a blank by 01, 257 walls and 00 (SHEETS 2.9)
+abbrev pub longestListed : ℕ
+longestListed = 256 * 11 + 9 + 257 * 11 + 1

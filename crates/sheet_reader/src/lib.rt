@@ -8,7 +8,7 @@ ghost use lib.ListN.{length};
 ghost use Rattle.sheet.specs.declared.Command.{Command};
 ghost use Rattle.sheet.specs.declared.Item.the-variants.{Add};
 ghost use Rattle.sheet.specs.Listing.{listing};
-ghost use Rattle.sheet.specs.Format.{openingAt, wallAt, itemAt, width};
+ghost use Rattle.sheet.specs.Format.{operandsAt, wallAt, itemAt, width};
 ghost use Rattle.sheet.specs.Table.{table, firstBroken};
 ghost use Rattle.sheet.specs.Returned.{verdict, accepted, refused};
 ghost use Rattle.sheet.specs.Scan.{verdictOf, commandsOf};
@@ -30,7 +30,7 @@ use sheet_rules::NO_LINE;
 // The operands that 01 and 03 have in common, of the track command at a place.
 fn track_at(s: &[u8], at: usize, start: u16) -> Track
     requires { ⌜ at + 9 ≤ length (now s) ⌝ }
-    ensures { λ r. ⌜ r ≡ openingAt start (now (s .entry)) at ⌝ }
+    ensures { λ r. ⌜ r ≡ operandsAt start (now (s .entry)) at ⌝ }
 {
     let id = byte_order::get16(s, at + 1);
     let x = byte_order::get16(s, at + 3);
