@@ -65,8 +65,8 @@ pub fn grid_roll_bytes(s: &[u8], g: u64, out: &mut [u8]) -> GridRolled
     match v {
         Verdict::Refused(number, place) => GridRolled::Refused(number, place),
         Verdict::Accepted => {
-            let sheet = sheet_reader::load(s);
-            rows(sheet, g, out)
+            let records = sheet_reader::load(s);
+            rows(records, g, out)
         }
     }
 }
