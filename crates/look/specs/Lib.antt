@@ -1,3 +1,4 @@
 pub mod Ends
 pub mod Tracks
 pub mod Counts
+pub mod Walls
