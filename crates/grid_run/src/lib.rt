@@ -71,7 +71,7 @@ pub fn grid_roll_bytes(s: &[u8], g: u64, out: &mut [u8]) -> GridRolled
     }
 }
 
-// Two listings: the first by the plain run, the second by the grid run. Where the second is the first in another order, what is written is the same.
+// Two listings: the first by the plain run, the second by the grid run. Where the second lists the records of the first, what is written is the same.
 pub fn exchange(first: &[u8], second: &[u8], g: u64, plain: &mut [u8], grid: &mut [u8]) -> Exchanged
     ensures { λ r. ⌜ Exchanges (record { first = now (first .entry); second = now (second .entry); figure = g; plain = now (plain .entry); grid = now (grid .entry) }) (now (plain .exit)) (now (grid .exit)) r ⌝ }
 {

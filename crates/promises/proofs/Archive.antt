@@ -1,7 +1,7 @@
 -- `archive`: what specs/Archive.antt says holds of the bytes of every accepted sheet.
 use mathlib.Core.Path.{_≡_, refl, sym, ap, _∙_, subst}
 use mathlib.Core.Bool.{Bool, true, false}
-use mathlib.Core.List.{List, [], _∷_, _++_, map, Permᴰ·symm, List·Memᴰ·head, List·Memᴰ·tail}
+use mathlib.Core.List.{List, [], _∷_, _++_, map, List·Memᴰ·head, List·Memᴰ·tail}
 use Prim.Native.Nat.{ℕ, suc, pred, _+_, _*_, _≤_, _<_}
 use native.Mathlib.Omega.{arith}
 use lib.ListN.{length, take, length-append}
@@ -22,10 +22,10 @@ use Rattle.sheet.specs.Listing.{Listing, listing, tracksOf, wallsOf, Reordered}
 use Rattle.sheet.specs.Ordered.{ordered, entry, commandsIn, orderedForm}
 use Rattle.sheet.specs.Returned.{Returned, accepted, gives}
 use Rattle.sheet.specs.Scan.{verdictOf, commandsOf}
-use Rattle.sheet.proofs.Decoded.{accepted-bytes, accepted-fits}
+use Rattle.sheet.proofs.Decoded.{commands-fit, accepted-bytes}
 use Rattle.sheet.proofs.Format.{encode-length}
 use Rattle.sheet.proofs.Lent.{said-given, put}
-use Rattle.sheet.proofs.Order.{accepted-reordered}
+use Rattle.sheet.proofs.Order.{reordered-back, accepted-reordered}
 use Rattle.sheet.proofs.RoundTrip.{accepted-records, ordered-same, handed-back, same-sheet}
 use Rattle.sheet_encoding.proofs.Forms.{entry-most, ordered-length}
 use Rattle.sheet_reader.specs.declared.Reading.{Reading}
@@ -92,9 +92,6 @@ wrote T acc sheet e {before} {exit} {w} h room =
 
 -- ---- the same sheet
 
-flip : {S S′ : Listing} → Reordered S S′ → Reordered S′ S
-flip p = record { tracks = Permᴰ·symm (p .tracks); walls = Permᴰ·symm (p .walls) }
-
 same-records : {S S′ : Listing} {a b : Sheet} → a ≡ sheetOf S → b ≡ sheetOf S′ → Reordered S S′ → Reordered (handedIn a) (handedIn b)
 same-records {S} {S′} {a} {b} e f p =
     let x : S ≡ handedIn a = sym (ap handedIn e ∙ handed-back S) in
@@ -109,7 +106,7 @@ module _ (s : List ℕ) (b : AllBytes s) (e : verdictOf s ≡ accepted) where
   acc = accepted-records s b e
 
   no-longer : length (orderedForm S) ≤ length s
-  no-longer = omega (arith, ordered-length S, listed-size S, size (commandsOf s) (accepted-fits s b e), ap length (accepted-bytes s b e))
+  no-longer = omega (arith, ordered-length S, listed-size S, size (commandsOf s) (commands-fit s b), ap length (accepted-bytes s b e))
 
   -- of what was read once, written, and read again
   module _ (r : Reading) (h : ReadFrom s r) where
@@ -127,13 +124,13 @@ module _ (s : List ℕ) (b : AllBytes s) (e : verdictOf s ≡ accepted) where
       twice c m =
           let p = ordered-same S in
           let t = same-sheet s b e .bytes in
-          rw t at (wrote (ordered S) (accepted-reordered (flip p) acc) (q .sheet) second c (rw t m) .1)
+          rw t at (wrote (ordered S) (accepted-reordered (reordered-back p) acc) (q .sheet) second c (rw t m) .1)
 
     is-again : Again (r .sheet) (orderedForm S)
     is-again =
         record {
           accepts = λ q k. k .judged ∙ same-sheet s b e .again .verdict;
-          same = λ q k. same-records first (second q k) (flip (ordered-same S));
+          same = λ q k. same-records first (second q k) (reordered-back (ordered-same S));
           still = λ q k c m. twice q k c m;
         }
 

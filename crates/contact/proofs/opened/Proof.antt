@@ -1,6 +1,6 @@
 -- `opened` meets its contract.
 use mathlib.Core.Path.{refl, ap}
-use Rattle.contact.specs.Lines.{opened}
+use Rattle.rule.specs.WallTime.{opened}
 use Rattle.contact.proofs.Answers.{was-never, was-at, open-at, moved-timely}
 use borrow.Author.Needs.{needs}
 use Rattle.contact.proofs.opened.Statement.{statement}
