@@ -1,4 +1,3 @@
 pub mod Ends
 pub mod Tracks
 pub mod Counts
-pub mod Walls
