@@ -58,7 +58,7 @@ enum fissure_refusal {
 #define FISSURE_LONGEST_CELL 512
 #define FISSURE_LONGEST_SHEET 5633
 /* So many bytes of an input are enough to read: they decide its answer, however long it is (docs/SHEETS.md, 2.10). */
-#define FISSURE_ENOUGH 5644
+#define FISSURE_ENOUGH 5643
 
 /* The verdict on a sheet's bytes; second: 0 if accepted. */
 uint64_t fissure_check(const uint8_t *sheet, size_t length, uint64_t *second);

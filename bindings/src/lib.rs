@@ -15,8 +15,8 @@ pub const LONGEST_CELL: usize = 256 * 2;
 /// Room for the ordered form of any sheet: 256 tracks with start times, 256 walls and the end.
 pub const LONGEST_SHEET: usize = 256 * 11 + 256 * 11 + 1;
 /// So many bytes of an input are enough to read: they decide its answer, however long it is (SHEETS 2.10).
-/// One command more than the longest sheet has, and a byte behind it.
-pub const ENOUGH: usize = LONGEST_SHEET - 1 + 11 + 1;
+/// One command more than the longest sheet has.
+pub const ENOUGH: usize = LONGEST_SHEET - 1 + 11;
 
 /// What an accepted call of the grid run gives.
 #[derive(Clone, Copy, Debug, PartialEq, Eq)]

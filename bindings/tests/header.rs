@@ -53,7 +53,7 @@ fn same_numbers() {
         ("ENOUGH", ENOUGH),
         ("SESSION", numbers::SIZE),
     ];
-    assert_eq!((LONGEST_SHEET, ENOUGH), (5633, 5644));
+    assert_eq!((LONGEST_SHEET, ENOUGH), (5633, 5643));
     let lengths = lengths.map(|(name, length)| (name, length as u64));
     assert_eq!(header(), here.into_iter().chain(lengths).collect());
 }

@@ -66,14 +66,12 @@ fn bulletin(sheet: &[u8], out: &mut [u8]) -> usize
     }
 }
 
-// The first bytes decide every sheet, and one byte more is read (SHEETS 2.10).
-const READ: usize = sheet::DECIDING + 1;
-
 // Room for every bulletin.
 const ROOM: usize = 512;
 
+// The bytes that it reads decide every sheet (SHEETS 2.10).
 fn main() {
-    let mut sheet = [0u8; READ];
+    let mut sheet = [0u8; sheet::DECIDING];
     let length = io::read_full(STDIN_FILENO, &mut sheet);
     let mut out = [0u8; ROOM];
     let n = bulletin(&sheet[..length], &mut out);

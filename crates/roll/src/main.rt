@@ -2,11 +2,9 @@
 use libc::STDIN_FILENO;
 use libc::STDOUT_FILENO;
 
-// The first bytes decide every sheet (`reads-enough` in proofs/ReadsEnough.antt), and one byte more is read (SHEETS 2.10).
-const READ: usize = sheet::DECIDING + 1;
-
+// The bytes that it reads decide every sheet (SHEETS 2.10): `reads-enough` in proofs/ReadsEnough.antt.
 fn main() {
-    let mut sheet = [0u8; READ];
+    let mut sheet = [0u8; sheet::DECIDING];
     let n = io::read_full(STDIN_FILENO, &mut sheet);
     let mut out = [0u8; page::ANSWER_ROOM];
     let m = page::answer(&sheet[..n], &mut out);
