@@ -57,6 +57,12 @@ enum fissure_refusal {
 #define FISSURE_LONGEST_ROLL 7424
 #define FISSURE_LONGEST_CELL 512
 #define FISSURE_LONGEST_SHEET 5633
+/* Room for each of the four shapefiles of any sheet: a header of 100 bytes, and for each of 256 rows 88 of a trace, 28 of an end, 8 of an
+ * index (docs/SHEETS.md, 12). */
+#define FISSURE_LONGEST_TRACES_SHP 22628
+#define FISSURE_LONGEST_TRACES_SHX 2148
+#define FISSURE_LONGEST_ENDS_SHP 7268
+#define FISSURE_LONGEST_ENDS_SHX 2148
 /* So many bytes of an input are enough to read: they decide its answer, however long it is (docs/SHEETS.md, 2.10). */
 #define FISSURE_ENOUGH 5643
 
@@ -78,6 +84,21 @@ uint64_t fissure_grid(const uint8_t *sheet, size_t length, uint64_t figure, uint
  * traces enter the cell, those of one time by rising id, however the sheet is listed (docs/SHEETS.md, 6.4 and 6.10). */
 uint64_t fissure_cells(const uint8_t *sheet, size_t length, uint64_t figure, uint64_t column, uint64_t row, uint8_t *out, size_t room,
                        uint64_t *second);
+
+/* Each of the next four writes a shapefile of the sheet's roll; second: its length. A record stands for a row, in the roll's order, however
+ * the sheet is listed (docs/SHEETS.md, 12). */
+
+/* The traces: PolyLines, each from its track's start to its row's point, or a null shape where these are equal. */
+uint64_t fissure_traces_shp(const uint8_t *sheet, size_t length, uint8_t *out, size_t room, uint64_t *second);
+
+/* The index file of the traces. */
+uint64_t fissure_traces_shx(const uint8_t *sheet, size_t length, uint8_t *out, size_t room, uint64_t *second);
+
+/* The end points: Points, those of the rows. */
+uint64_t fissure_ends_shp(const uint8_t *sheet, size_t length, uint8_t *out, size_t room, uint64_t *second);
+
+/* The index file of the end points. */
+uint64_t fissure_ends_shx(const uint8_t *sheet, size_t length, uint8_t *out, size_t room, uint64_t *second);
 
 /* A session over a sheet is a slice of numbers that the caller keeps: the first FISSURE_SESSION of them are the session, today the number
  * of rows shown; numbers behind them stay as they are. More rows shown than the roll has count as all of them. A slice with fewer numbers

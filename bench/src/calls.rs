@@ -2,9 +2,10 @@
 
 use crate::sheets::Timed;
 use crate::timing::least;
-use fissures::{Cell, Session, LONGEST_ROLL};
+use fissures::{Cell, Session, LONGEST_TRACES_SHP};
 use reference::cells::{count, listing, FIGURES};
 use reference::roll::{roll, roll_bytes, Row};
+use reference::shapefile::{index_file, main_file, Layer};
 use reference::sheet::{self, read};
 use std::hint::black_box;
 
@@ -21,7 +22,13 @@ pub enum Call {
     Step,
     /// The listing of the fullest cell at a figure.
     Cells(u64),
+    /// A shapefile with its records, and its index file.
+    Main(Layer),
+    Index(Layer),
 }
+
+/// Room for any answer.
+const LONGEST: usize = LONGEST_TRACES_SHP;
 
 /// Those of the cell listing: all tracks in one cell, and a grid.
 pub const LISTED_FIGURES: [u64; 2] = [1, 8];
@@ -33,6 +40,11 @@ impl Call {
         [&[Call::Read, Call::Plain][..], &FIGURES.map(Call::Grid), &[Call::Step], &cells].concat()
     }
 
+    /// Those by which a sheet is exported.
+    pub fn exports() -> [Call; 4] {
+        [Call::Main(Layer::Traces), Call::Index(Layer::Traces), Call::Main(Layer::Ends), Call::Index(Layer::Ends)]
+    }
+
     pub fn name(self) -> String {
         match self {
             Call::Read => "reading".into(),
@@ -41,6 +53,10 @@ impl Call {
             Call::Grid(figure) => format!("grid run, g = {figure}"),
             Call::Step => "session step".into(),
             Call::Cells(figure) => format!("cell listing, g = {figure}"),
+            Call::Main(Layer::Traces) => "traces.shp".into(),
+            Call::Index(Layer::Traces) => "traces.shx".into(),
+            Call::Main(Layer::Ends) => "ends.shp".into(),
+            Call::Index(Layer::Ends) => "ends.shx".into(),
         }
     }
 
@@ -57,6 +73,10 @@ impl Call {
                 let (cell, _) = timed.fullest(figure);
                 fissures::cells(sheet, Cell { figure, column: cell.column, row: cell.row }, out)
             }
+            Call::Main(Layer::Traces) => fissures::traces_shp(sheet, out),
+            Call::Index(Layer::Traces) => fissures::traces_shx(sheet, out),
+            Call::Main(Layer::Ends) => fissures::ends_shp(sheet, out),
+            Call::Index(Layer::Ends) => fissures::ends_shx(sheet, out),
         };
         answer.expect("an accepted sheet")
     }
@@ -82,19 +102,22 @@ impl Call {
                 put_bytes(&ids.iter().flat_map(|id| id.to_le_bytes()).collect::<Vec<u8>>(), out);
                 ids.len()
             }
+            Call::Main(layer) => put_bytes(&main_file(layer, &records, &roll(&records)), out),
+            Call::Index(layer) => put_bytes(&index_file(layer, &records, &roll(&records)), out),
         }
     }
 
     /// Both sides give the same answer.
     pub fn check(self, timed: &Timed) {
-        let (mut ours, mut theirs) = ([0; LONGEST_ROLL], [0; LONGEST_ROLL]);
+        let (mut ours, mut theirs) = (vec![0; LONGEST], vec![0; LONGEST]);
         let numbers = (self.proved(timed, &mut ours), self.outside(timed, &mut theirs));
         assert!(numbers.0 == numbers.1 && ours == theirs, "{}, {}: answers differ", timed.name(), self.name());
     }
 }
 
-fn put_bytes(bytes: &[u8], out: &mut [u8]) {
+fn put_bytes(bytes: &[u8], out: &mut [u8]) -> usize {
     out[..bytes.len()].copy_from_slice(bytes);
+    bytes.len()
 }
 
 fn put(rows: &[Row], out: &mut [u8]) -> usize {
@@ -118,7 +141,7 @@ impl Pair {
 /// The times of each call, which all take turns. Both sides give the same answers.
 pub fn compare(calls: &[Call], timed: &Timed) -> Vec<Pair> {
     calls.iter().for_each(|call| call.check(timed));
-    let mut out = [0; LONGEST_ROLL];
+    let mut out = [0; LONGEST];
     let times = least(2 * calls.len(), |number| {
         let (call, timed) = (calls[number / 2], black_box(timed));
         black_box(match number % 2 {

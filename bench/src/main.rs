@@ -3,6 +3,7 @@
 
 mod calls;
 mod cell_rows;
+mod export_rows;
 mod grid_rows;
 mod growth;
 mod order_rows;
@@ -25,17 +26,23 @@ fn write_sheets(folder: &Path) -> std::io::Result<()> {
     timed.enumerate().try_for_each(|(i, timed)| fs::write(folder.join(format!("{i:02} {}", timed.name())), timed.bytes))
 }
 
-fn main() -> std::io::Result<()> {
-    let words: Vec<String> = std::env::args().skip(1).collect();
-    if let [option, folder] = &words[..] {
-        assert_eq!(option, "--sheets", "bench --sheets FOLDER");
-        return write_sheets(Path::new(folder));
-    }
+fn print_all() {
     growth::print();
     order_rows::print();
     let sheets = sheets::all();
     plain_rows::print(&sheets);
     grid_rows::print(&sheets);
     cell_rows::print(&sheets);
+    export_rows::print();
+}
+
+fn main() -> std::io::Result<()> {
+    let words: Vec<String> = std::env::args().skip(1).collect();
+    match words.iter().map(String::as_str).collect::<Vec<_>>()[..] {
+        [] => print_all(),
+        ["--export"] => export_rows::print(),
+        ["--sheets", folder] => return write_sheets(Path::new(folder)),
+        _ => panic!("bench, bench --export or bench --sheets FOLDER"),
+    }
     Ok(())
 }

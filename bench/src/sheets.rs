@@ -144,13 +144,17 @@ pub fn on_ground(kind: &'static str, ground: &Ground, tracks: usize, walls: usiz
     Timed::new(kind, fill(tracks, walls, |rng| ground.command(rng)))
 }
 
+pub fn with_short_traces(tracks: usize, walls: usize) -> Timed {
+    Timed::new("short", short(tracks, walls))
+}
+
 /// Random; on cell borders; on a field of 20 × 20 points, which has no room for 256 tracks beside 256 walls; with short traces; random
 /// with start times. All but the last start at 0.
 pub fn all() -> Vec<Timed> {
     let grounds = [("random", WHOLE), ("borders", BORDERS), ("snapped", SMALL)];
     let of =
         |(kind, ground): (&'static str, Ground)| SIZES.map(|(tracks, walls)| on_ground(kind, &ground, tracks, walls));
-    let short = SIZES.map(|(tracks, walls)| Timed::new("short", short(tracks, walls)));
+    let short = SIZES.map(|(tracks, walls)| with_short_traces(tracks, walls));
     let late = SIZES.map(|(tracks, walls)| Timed::new("late", late(tracks, walls)));
     grounds.into_iter().flat_map(of).chain(short).chain(late).collect()
 }

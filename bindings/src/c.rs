@@ -25,6 +25,10 @@ extern "C" {
         room: usize,
         second: &mut u64,
     ) -> u64;
+    pub fn fissure_traces_shp(sheet: *const u8, length: usize, out: *mut u8, room: usize, second: &mut u64) -> u64;
+    pub fn fissure_traces_shx(sheet: *const u8, length: usize, out: *mut u8, room: usize, second: &mut u64) -> u64;
+    pub fn fissure_ends_shp(sheet: *const u8, length: usize, out: *mut u8, room: usize, second: &mut u64) -> u64;
+    pub fn fissure_ends_shx(sheet: *const u8, length: usize, out: *mut u8, room: usize, second: &mut u64) -> u64;
     pub fn fissure_open(sheet: *const u8, length: usize, session: *mut u64, numbers: usize, second: &mut u64) -> u64;
     pub fn fissure_advance(
         sheet: *const u8,

@@ -4,9 +4,11 @@
 mod c;
 mod refusal;
 mod row;
+mod shapefiles;
 
 pub use refusal::Refusal;
 pub use row::{Row, ROW};
+pub use shapefiles::*;
 
 /// Room for the roll of any sheet: 256 rows.
 pub const LONGEST_ROLL: usize = 256 * ROW;
@@ -52,18 +54,24 @@ pub fn check(sheet: &[u8]) -> Result<(), Refusal> {
     answer(|second| unsafe { c::fissure_check(sheet.as_ptr(), sheet.len(), second) }).map(|_| ())
 }
 
+/// The calls of c.rs that write what they make of a sheet, and are given nothing else.
+type Writer = unsafe extern "C" fn(*const u8, usize, *mut u8, usize, &mut u64) -> u64;
+
+/// Makes such a call.
+fn write(call: Writer, sheet: &[u8], out: &mut [u8]) -> Result<usize, Refusal> {
+    let (room, out) = (out.len(), out.as_mut_ptr());
+    // SAFETY: `call` is one of c.rs; `sheet` and `out` are slices, `out` and `second` are borrowed mutably.
+    answer(|second| unsafe { call(sheet.as_ptr(), sheet.len(), out, room, second) })
+}
+
 /// Writes the sheet's ordered form and gives its length. A track that starts at 0 is written by 01, also where the sheet lists it by 03.
 pub fn order(sheet: &[u8], out: &mut [u8]) -> Result<usize, Refusal> {
-    let (room, out) = (out.len(), out.as_mut_ptr());
-    // SAFETY: `sheet` and `out` are slices, `out` and `second` are borrowed mutably.
-    answer(|second| unsafe { c::fissure_order(sheet.as_ptr(), sheet.len(), out, room, second) })
+    write(c::fissure_order, sheet, out)
 }
 
 /// Writes the sheet's roll, by the plain run, and gives the number of rows.
 pub fn plain(sheet: &[u8], out: &mut [u8]) -> Result<usize, Refusal> {
-    let (room, out) = (out.len(), out.as_mut_ptr());
-    // SAFETY: `sheet` and `out` are slices, `out` and `second` are borrowed mutably.
-    answer(|second| unsafe { c::fissure_plain(sheet.as_ptr(), sheet.len(), out, room, second) })
+    write(c::fissure_plain, sheet, out)
 }
 
 /// Writes the sheet's roll, by the grid run of the figure.

@@ -1,7 +1,7 @@
 //! Each function of the proved library against the reference implementation, on sheets valid and damaged, long and short, with buffers
 //! that are too short by one byte, exact, and longer than needed.
 
-use fissures::{numbers, Cell, GridRoll, Place, Row, Session, LONGEST_ROLL, ROW};
+use fissures::{numbers, Cell, GridRoll, Place, Row, Session, Shapefile, LONGEST_ROLL, ROW, SHAPEFILES};
 use reference::cells::{self, FIGURES};
 use reference::made_up::entering::{entering, entering_late, Entering};
 use reference::made_up::{self, late, BORDERS, COARSE, SMALL};
@@ -9,6 +9,7 @@ use reference::names::place_in;
 use reference::refusal::{Refusal, OUTPUT_TOO_SHORT};
 use reference::rng::Rng;
 use reference::roll::{roll, roll_bytes};
+use reference::shapefile::{files, shapes, Layer, Shape};
 use reference::sheet::{listing, ordered_form, read, Records};
 use std::fmt::Debug;
 
@@ -205,6 +206,42 @@ fn cell_listing_of_tips_that_enter_together() {
             compare_orders(&mut rng, &sheet, Cell { figure, column, row });
         }
     }
+}
+
+/// What a sheet's four files should be, in the order of `SHAPEFILES`.
+fn by_reference(records: &Records) -> [Vec<u8>; 4] {
+    files(records, &roll(records))
+}
+
+/// Whether the files have what is special to them: a null shape (SHEETS 12.5), or no point at all (12.6).
+fn special(records: &Records) -> (bool, bool) {
+    let shapes = shapes(Layer::Traces, records, &roll(records));
+    (shapes.contains(&Shape::Null), shapes.is_empty())
+}
+
+/// Each file, which has the same bytes for another order of the commands.
+#[test]
+fn shapefiles() {
+    let mut rng = Rng::new(11);
+    let (mut longest, mut with_null, mut without_points) = ([0; 4], 0, 0);
+    for sheet in sheets(11).into_iter().chain(reference::chosen::all()) {
+        let records = read(&sheet);
+        let other = made_up::in_another_order(&mut rng, &sheet);
+        let expected = records.as_ref().map(by_reference);
+        for (i, Shapefile { write, .. }) in SHAPEFILES.into_iter().enumerate() {
+            let expected = expected.clone().map(|files| (files[i].len(), files[i].clone())).map_err(|refusal| *refusal);
+            compare(&expected, |out| write(&sheet, out));
+            if let Some(other) = &other {
+                compare(&expected, |out| write(other, out));
+            }
+            longest[i] = longest[i].max(expected.map_or(0, |(length, _)| length));
+        }
+        let (null, empty) = records.map_or((false, false), |records| special(&records));
+        with_null += usize::from(null);
+        without_points += usize::from(empty);
+    }
+    assert_eq!(longest, SHAPEFILES.map(|file| file.longest));
+    assert!(with_null > 500 && without_points > 20, "{with_null} and {without_points} sheets");
 }
 
 /// What a call on a session gives: the number stored in `second`, the rows shown then, and the rows written.

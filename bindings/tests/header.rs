@@ -1,6 +1,8 @@
 //! The names of fissures.h and those here stand for the same numbers.
 
-use fissures::{numbers, Place, Refusal, Row, ENOUGH, LONGEST_CELL, LONGEST_ROLL, LONGEST_SHEET, ROW};
+use fissures::{numbers, Place, Refusal, Row, ENOUGH, ROW};
+use fissures::{LONGEST_CELL, LONGEST_ENDS_SHP, LONGEST_ENDS_SHX, LONGEST_ROLL};
+use fissures::{LONGEST_SHEET, LONGEST_TRACES_SHP, LONGEST_TRACES_SHX};
 use std::collections::BTreeMap;
 
 /// Each name of the header with its number: `#define NAME 1`, or `NAME = 1` in an enum.
@@ -50,6 +52,10 @@ fn same_numbers() {
         ("LONGEST_ROLL", LONGEST_ROLL),
         ("LONGEST_CELL", LONGEST_CELL),
         ("LONGEST_SHEET", LONGEST_SHEET),
+        ("LONGEST_TRACES_SHP", LONGEST_TRACES_SHP),
+        ("LONGEST_TRACES_SHX", LONGEST_TRACES_SHX),
+        ("LONGEST_ENDS_SHP", LONGEST_ENDS_SHP),
+        ("LONGEST_ENDS_SHX", LONGEST_ENDS_SHX),
         ("ENOUGH", ENOUGH),
         ("SESSION", numbers::SIZE),
     ];

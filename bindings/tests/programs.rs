@@ -1,8 +1,15 @@
 //! The programs in C and in Rust: `roll` prints for each sheet of examples/ what program `roll` in Rattle prints, `desk` what it should.
+//! Program `shapes`, in Rattle and in C, writes the files that the reference implementation expects.
 
-use std::fs::File;
+use fissures::SHAPEFILES;
+use reference::refusal::Refusal;
+use reference::roll::roll;
+use reference::shapefile::files;
+use reference::sheet::read;
+use std::fs::{self, File};
+use std::io::Write;
 use std::path::Path;
-use std::process::Command;
+use std::process::{Command, Stdio};
 
 /// The repository.
 fn root() -> &'static Path {
@@ -66,4 +73,65 @@ fn in_rust() {
     run(env!("CARGO"), "build --release --offline -p roll").expect("cargo");
     let built = Path::new(env!("CARGO_TARGET_TMPDIR")).with_file_name("release");
     prints_the_examples(built.join("roll").to_str().unwrap());
+}
+
+/// The four files of a sheet, in the order of `SHAPEFILES`.
+fn expected_files(sheet: &[u8]) -> Result<[Vec<u8>; 4], Refusal> {
+    read(sheet).map(|records| files(&records, &roll(&records)))
+}
+
+/// What a program prints for a sheet.
+fn prints(program: &Path, argument: &Path, sheet: &[u8]) -> String {
+    let mut command = Command::new(program);
+    let spawned = command.arg(argument).stdin(Stdio::piped()).stdout(Stdio::piped()).spawn();
+    let mut child = spawned.unwrap_or_else(|error| panic!("{}: {error}", program.display()));
+    // The program may leave the end of a long input unread.
+    let _ = child.stdin.take().expect("piped").write_all(sheet);
+    let output = child.wait_with_output().expect("its output");
+    assert!(output.status.success());
+    String::from_utf8(output.stdout).expect("text")
+}
+
+/// A refused sheet, those of examples/, and more, the longest among them.
+fn sheets_for_files() -> Vec<Vec<u8>> {
+    let examples = fs::read_dir(root().join("examples")).expect("examples/");
+    let mut paths: Vec<_> = examples.map(|entry| entry.expect("an entry").path()).collect();
+    paths.retain(|path| path.extension().is_some_and(|extension| extension == "sheet"));
+    paths.sort_by_key(|path| (!path.ends_with("facing.sheet"), path.clone()));
+    let read_in = paths.iter().map(|path| fs::read(path).expect("a sheet"));
+    read_in.chain(reference::chosen::late::sheets()).collect()
+}
+
+/// Runs a program on sheet after sheet, under one name: the files of the last accepted one are there, and no others.
+fn writes_the_files(program: &str) {
+    let folder = Path::new(env!("CARGO_TARGET_TMPDIR")).join(program.replace('/', "-"));
+    let _ = fs::remove_dir_all(&folder);
+    fs::create_dir_all(&folder).expect("a folder");
+    let mut written = None;
+    for sheet in sheets_for_files() {
+        let printed = prints(&root().join(program), &folder.join("base"), &sheet);
+        match expected_files(&sheet) {
+            Ok(files) => {
+                assert_eq!(printed, "");
+                written = Some(files);
+            }
+            Err(Refusal { number, place }) => assert_eq!(printed, format!("refused {number} {place}\n")),
+        }
+        assert_eq!(fs::read_dir(&folder).expect("the folder").count(), if written.is_some() { 4 } else { 0 });
+        for (file, bytes) in SHAPEFILES.iter().zip(written.iter().flatten()) {
+            let path = folder.join(format!("base-{}", file.name));
+            assert_eq!(fs::read(&path).expect("a file"), *bytes, "{}", path.display());
+        }
+    }
+}
+
+#[test]
+fn shapes_in_rattle() {
+    writes_the_files("target/bin/shapes");
+}
+
+#[test]
+fn shapes_in_c() {
+    compile("shapes");
+    writes_the_files("target/shapes-c");
 }

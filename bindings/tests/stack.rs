@@ -1,6 +1,6 @@
 //! No call takes more stack than fissures.h says.
 
-use fissures::{Cell, Session, LONGEST_CELL, LONGEST_ROLL, LONGEST_SHEET};
+use fissures::{Cell, Session, LONGEST_CELL, LONGEST_ROLL, LONGEST_SHEET, SHAPEFILES};
 use reference::cells::FIGURES;
 
 /// What is enough for any call.
@@ -16,6 +16,9 @@ fn calls(sheet: &[u8]) {
         fissures::grid(sheet, figure, &mut out).expect("room for any roll");
         let cell = Cell { figure, column: 0, row: 0 };
         fissures::cells(sheet, cell, &mut out[..LONGEST_CELL]).expect("room for any cell");
+    }
+    for file in SHAPEFILES {
+        file.of(sheet).expect("room for any sheet");
     }
     let mut session = Session::open(sheet).expect("an accepted sheet");
     session.advance(u64::MAX, &mut out).expect("room for any roll");

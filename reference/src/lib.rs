@@ -15,4 +15,5 @@ pub mod plane;
 pub mod refusal;
 pub mod rng;
 pub mod roll;
+pub mod shapefile;
 pub mod sheet;

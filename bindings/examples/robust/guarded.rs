@@ -15,8 +15,8 @@ mod c {
 }
 
 const PAGE: usize = 4096;
-/// Room for any sheet, roll or listing, and for what is lent beyond it.
-const INSIDE: usize = 4 * PAGE;
+/// Room for any sheet, roll, listing or shapefile, and for what is lent beyond it.
+const INSIDE: usize = 6 * PAGE;
 
 /// Where a lent part lies.
 #[derive(Clone, Copy, Debug)]

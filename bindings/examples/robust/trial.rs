@@ -1,12 +1,13 @@
 //! One input: what the reference implementation expects of each function, worked out once, and the calls that are compared with it.
 
 use crate::guarded::{Guarded, SIDES};
-use fissures::{numbers, Cell, GridRoll, Place, ROW};
+use fissures::{numbers, Cell, GridRoll, Place, ROW, SHAPEFILES};
 use reference::cells::{self, FIGURES};
 use reference::names::place_in;
 use reference::refusal::{Refusal, GRID_FIGURE, OUTPUT_TOO_SHORT, OUTSIDE_GRID};
 use reference::rng::Rng;
 use reference::roll::{roll, roll_bytes, Row};
+use reference::shapefile::files;
 use reference::sheet::{ordered_form, read, Records};
 use std::fmt::Debug;
 
@@ -16,6 +17,8 @@ pub struct Sheet {
     pub rows: Vec<Row>,
     form: Vec<u8>,
     roll: Vec<u8>,
+    /// In the order of `SHAPEFILES`.
+    shapefiles: [Vec<u8>; 4],
 }
 
 /// Refusal 13.
@@ -39,8 +42,8 @@ pub fn work_out(input: &[u8]) -> Result<Sheet, Refusal> {
     let records = read(input)?;
     let rows = roll(&records);
     let form = ordered_form(&records.tracks, &records.walls);
-    let roll = roll_bytes(&rows);
-    Ok(Sheet { records, rows, form, roll })
+    let (roll, shapefiles) = (roll_bytes(&rows), files(&records, &rows));
+    Ok(Sheet { records, rows, form, roll, shapefiles })
 }
 
 fn as_told(refusal: Refusal) -> fissures::Refusal {
@@ -69,6 +72,7 @@ impl<'a> Trial<'a> {
         self.plain();
         self.grid();
         self.cells();
+        self.shapefiles();
         self.session();
         self.name();
     }
@@ -177,6 +181,14 @@ impl<'a> Trial<'a> {
         let listed = ids.map(|ids| (ids.len(), ids.iter().flat_map(|id| id.to_le_bytes()).collect::<Vec<u8>>()));
         let expected = listed.as_ref().map(|(count, bytes)| (*count, &bytes[..])).map_err(|refusal| *refusal);
         self.call(&format!("{cell:?}"), expected, |out| fissures::cells(input, cell, out));
+    }
+
+    fn shapefiles(&mut self) {
+        let (input, sheet) = (self.input, self.expected);
+        for (i, file) in SHAPEFILES.into_iter().enumerate() {
+            let expected = sheet.map(|sheet| &sheet.shapefiles[i][..]).map(|bytes| (bytes.len(), bytes));
+            self.call(file.name, expected, |out| (file.write)(input, out));
+        }
     }
 
     /// The lent numbers of a session: none, one or more, with any number of rows shown.

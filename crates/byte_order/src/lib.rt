@@ -1,9 +1,16 @@
-// Fields of a buffer (SHEETS 1.4): numbers of any width, low byte first, and signed bytes.
+// Fields of a buffer (SHEETS 1.4): numbers of any width, low byte first, and signed bytes; in shapefiles high byte first too (SHEETS 12.2).
 ghost use mathlib.Core.Path.{_≡_};
 ghost use Prim.Native.Nat.{_+_, _^_, _≤_, _<_};
 ghost use lib.ListN.{length};
 ghost use lib.Seq.{sets};
 ghost use Rattle.byte_order.specs.Bytes.{leBytes, leOf, signedOf, byteOf};
+ghost use Rattle.byte_order.specs.Orders.{beBytes, numberBytes};
+
+// Which byte of a number comes first.
+pub enum Order {
+    LowFirst,
+    HighFirst,
+}
 
 // A byte with its bound, so that a sum with it is known to fit.
 fn wide(b: u8) -> u64
@@ -48,6 +55,31 @@ pub fn put(out: &mut [u8], at: usize, w: usize, v: u64)
         rest = rest / 256;
         p += 1;
         left -= 1;
+    }
+}
+
+// The same, high byte first: from the last byte back.
+fn put_high_first(out: &mut [u8], at: usize, w: usize, v: u64)
+    requires { ⌜ at + w ≤ length (now out) ⌝ }
+    ensures { λ r. ⌜ now (out .exit) ≡ sets (now (out .entry)) at (beBytes w v) ⌝ }
+{
+    let mut left = w;
+    let mut rest = v;
+    while 0 < left {
+        left -= 1;
+        out[at + left] = (rest % 256) as u8;
+        rest = rest / 256;
+    }
+}
+
+// Stores the w low bytes of v at a place, in the order named.
+pub fn put_in(order: Order, out: &mut [u8], at: usize, w: usize, v: u64)
+    requires { ⌜ at + w ≤ length (now out) ⌝ }
+    ensures { λ r. ⌜ now (out .exit) ≡ sets (now (out .entry)) at (numberBytes order w v) ⌝ }
+{
+    match order {
+        Order::LowFirst => put(out, at, w, v),
+        Order::HighFirst => put_high_first(out, at, w, v),
     }
 }
 

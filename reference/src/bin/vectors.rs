@@ -2,7 +2,8 @@
 //!
 //! - `vectors frames` writes framed questions, and how many there are to standard error.
 //! - `vectors expected` reads such frames and prints the answers: of a sheet or of records handed
-//!   in the refusal, or what reader, writer, both runs and the cell listings give; of a lookup the name.
+//!   in the refusal, or what reader, writer, both runs, the cell listings and the shapefiles give; of a
+//!   lookup the name.
 //! - `vectors cells` reads such frames and prints for each sheet its refusal or the cell listings.
 //! - `vectors roll` reads one sheet without a frame and prints what program `roll` prints.
 
@@ -14,6 +15,7 @@ use reference::handed_in::HandedIn;
 use reference::names::Lookup;
 use reference::refusal::Refusal;
 use reference::roll::{roll, roll_bytes};
+use reference::shapefile;
 use reference::sheet::{ordered_form, read, Records};
 use std::collections::BTreeMap;
 use std::io::{self, BufWriter, Read, Write};
@@ -85,7 +87,7 @@ fn hexadecimal(bytes: &[u8]) -> String {
 }
 
 /// Numbers of tracks and walls and the ordered form; the roll's bytes; the cells entered at each
-/// of the six figures; the cell listings.
+/// of the six figures; the cell listings; the shapefiles.
 fn records_lines(records: &Records) -> String {
     let Records { tracks, walls } = records;
     let form = hexadecimal(&ordered_form(tracks, walls));
@@ -96,7 +98,20 @@ fn records_lines(records: &Records) -> String {
         let ids = cells::ids_in(records, &rows, figure, cell);
         hexadecimal(&ids.iter().flat_map(|id| id.to_le_bytes()).collect::<Vec<u8>>())
     });
-    format!("{} {} {form}\nroll {bytes}\ncells {counts}\n{listed}", tracks.len(), walls.len())
+    let shapes = shapes_line(shapefile::files(records, &rows).map(|file| length_and_checksum(&file)));
+    format!("{} {} {form}\nroll {bytes}\ncells {counts}\n{listed}\n{shapes}", tracks.len(), walls.len())
+}
+
+/// What is said of each of the four files, in the order of `shapefile::files`.
+fn shapes_line(of_files: [String; 4]) -> String {
+    format!("shapes {}", of_files.join(" "))
+}
+
+/// Of a file, whose bytes would make too long a line. The modulus is a prime below 2^55, so that products are within
+/// 64 bits.
+fn length_and_checksum(file: &[u8]) -> String {
+    let checksum = file.iter().fold(0, |sum: u64, byte| (sum * 257 + u64::from(*byte) + 1) % ((1 << 55) - 55));
+    format!("{} {checksum}", file.len())
 }
 
 /// The cells of a grid, by columns, then rows.
@@ -110,8 +125,8 @@ fn listed_line(of: impl Fn(u64, Cell) -> String) -> String {
     all.fold("listed".to_string(), |line, (figure, cell)| line + " " + &of(figure, cell))
 }
 
-/// What the check gives, then the writer, both runs and the cell listings: the plain run once, the
-/// grid run at each figure, the listing for each cell.
+/// What the check gives, then the writer, both runs, the cell listings and the shapefiles: the plain run
+/// once, the grid run at each figure, the listing for each cell, the shapefile for each of the four.
 fn handed_in_lines(handed_in: &HandedIn) -> String {
     let HandedIn { ntracks, nwalls, .. } = handed_in;
     match handed_in.check() {
@@ -119,7 +134,8 @@ fn handed_in_lines(handed_in: &HandedIn) -> String {
         Err(refusal) => {
             let at_each = FIGURES.map(|_| refusal.to_string()).join(" ");
             let listed = listed_line(|_, _| refusal.to_string());
-            format!("{refusal}\n{ntracks} {nwalls} {refusal}\nroll {refusal}\ncells {at_each}\n{listed}")
+            let shapes = shapes_line([(); 4].map(|()| refusal.to_string()));
+            format!("{refusal}\n{ntracks} {nwalls} {refusal}\nroll {refusal}\ncells {at_each}\n{listed}\n{shapes}")
         }
     }
 }

@@ -2,7 +2,7 @@
 //! counts other than what is listed.
 
 use super::late::tracks_starting;
-use super::{document, late, limits, together, track, tracks, wall, walls};
+use super::{document, late, limits, shapes, together, track, tracks, wall, walls};
 use crate::handed_in::HandedIn;
 use crate::sheet::{whole_commands, Command, Records};
 
@@ -101,5 +101,6 @@ fn with_start_times() -> Vec<HandedIn> {
 pub fn all() -> Vec<HandedIn> {
     let records =
         [of_sheets(), beyond_the_room(), faulty_with_one_too_many(), counts_and_lists(), behind_the_counted()];
-    [records.concat(), with_start_times()].concat()
+    let shapes = whole(shapes::sheets().into_iter().step_by(3));
+    [records.concat(), with_start_times(), shapes].concat()
 }

@@ -1,5 +1,5 @@
 //! Chosen sheets: the starred ones, each line of the refusal table at its limits, endings that the
-//! rule has to tell apart, and start times in all of these.
+//! rule has to tell apart, start times in all of these, and shapes.
 
 pub mod document;
 pub mod endings;
@@ -9,6 +9,7 @@ pub mod handed_in;
 pub mod late;
 pub mod limits;
 pub mod names;
+pub mod shapes;
 pub mod together;
 
 use crate::sheet::{Command, Track, Wall};
@@ -41,10 +42,10 @@ pub fn walls(count: u16) -> Vec<Command> {
 
 /// Every chosen sheet in bytes.
 pub fn all() -> Vec<Vec<u8>> {
-    [without_start_times(), late::sheets()].concat()
+    [without_start_times(), late::sheets(), shapes::sheets()].concat()
 }
 
-/// Those that are not about 03.
+/// Those that are about neither 03 nor shapes.
 pub fn without_start_times() -> Vec<Vec<u8>> {
     let document = document::sheets().into_iter().map(|(_, sheet)| sheet);
     document

@@ -26,13 +26,13 @@ fn with_start_time(rng: &mut Rng, command: Command) -> Command {
 
 /// Commands that a sheet can hold together, as they are drawn.
 #[derive(Default)]
-struct Kept {
+pub(super) struct Kept {
     records: Records,
     listed: Vec<Command>,
 }
 
 impl Kept {
-    fn draw(&mut self, rng: &mut Rng, count: usize, mut make: impl FnMut(&mut Rng, &Records) -> Command) {
+    pub(super) fn draw(&mut self, rng: &mut Rng, count: usize, mut make: impl FnMut(&mut Rng, &Records) -> Command) {
         for _ in 0..count {
             let command = make(rng, &self.records);
             if self.records.admit(command).is_ok() {
@@ -42,13 +42,13 @@ impl Kept {
     }
 
     /// In any order.
-    fn sheet(mut self, rng: &mut Rng) -> Vec<u8> {
+    pub(super) fn sheet(mut self, rng: &mut Rng) -> Vec<u8> {
         rng.shuffle(&mut self.listed);
         listing(self.listed)
     }
 }
 
-fn drawn(rng: &mut Rng, ground: &Ground, count: usize) -> Kept {
+pub(super) fn drawn(rng: &mut Rng, ground: &Ground, count: usize) -> Kept {
     let mut kept = Kept::default();
     kept.draw(rng, count, |rng, _| {
         let command = ground.command(rng);

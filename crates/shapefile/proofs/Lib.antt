@@ -1,0 +1,4 @@
+pub mod Lengths
+pub mod Least
+pub mod ReadingFields
+pub mod Reading

@@ -1,0 +1,5 @@
+pub mod Layout
+pub mod Extent
+pub mod Figures
+pub mod Files
+pub mod Reading
