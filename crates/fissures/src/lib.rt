@@ -33,6 +33,16 @@ pub use text::line;
 pub use text::refusal;
 pub use text::still_running;
 
+// The traces and the ends as shapefiles: of each the main file and its index.
+pub use shape_layers::ends_shp;
+pub use shape_layers::ends_shp_bytes;
+pub use shape_layers::ends_shx;
+pub use shape_layers::ends_shx_bytes;
+pub use shape_layers::traces_shp;
+pub use shape_layers::traces_shp_bytes;
+pub use shape_layers::traces_shx;
+pub use shape_layers::traces_shx_bytes;
+
 // The stepping session, the partner's name or where it lies, the tracks of a cell as they enter it.
 pub use cell_listing::cell_tracks;
 pub use cell_listing::cell_tracks_bytes;

@@ -15,6 +15,10 @@ use Rattle.plain_run.specs.Rolled.{rollReturns}
 use Rattle.grid_run.specs.GridRolled.{gridReturns}
 use Rattle.cell_listing.specs.CellIds.{cellIds}
 use Rattle.cell_listing.specs.Listed.{idBytes, listReturns, cell}
+use Rattle.shapefile.specs.declared.Layer.{Layer}
+use Rattle.shapefile.specs.declared.Part.{Part}
+use Rattle.shape_files.specs.Exported.{fileReturns}
+use Rattle.shape_layers.specs.Layers.{layerFile}
 use Rattle.fissures_c.specs.Answers.{number, other, leaves}
 
 -- reading a sheet and writing its ordered form (SHEETS 2.6)
@@ -46,3 +50,9 @@ abbrev pub cellsCall : List ℕ → ℕ → ℕ → ℕ → List ℕ → ℕ × 
 cellsCall s g column row out =
     let S = listing (commandsOf s) in
     leaves (listReturns (verdictOf s) S g column row (length out)) (idBytes (cellIds S g (cell column row))) out
+
+-- reading a sheet and writing a file of a layer of its roll (SHEETS 12.1)
+abbrev pub exportCall : Layer → Part → List ℕ → List ℕ → ℕ × ℕ × List ℕ
+exportCall layer part s out =
+    let file = layerFile layer part (listing (commandsOf s)) in
+    leaves (fileReturns (verdictOf s) file (length out)) file out

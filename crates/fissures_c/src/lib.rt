@@ -4,13 +4,17 @@ ghost use mathlib.Core.Path.{_≡_};
 ghost use Rattle.sheet.specs.Scan.{verdictOf};
 ghost use Rattle.sheet.specs.Answer.{answered};
 ghost use Rattle.fissures_c.specs.Answers.{told};
-ghost use Rattle.fissures_c.specs.Calls.{orderCall, plainCall, gridCall, cellsCall};
+ghost use Rattle.fissures_c.specs.Calls.{orderCall, plainCall, gridCall, cellsCall, exportCall};
+ghost use Rattle.shapefile.specs.declared.Layer.the-variants.{Traces, Ends};
+ghost use Rattle.shapefile.specs.declared.Part.the-variants.{Main, Index};
 ghost use Rattle.fissures_c.specs.Steps.{Takes, startCall, advanceCall, runningCall, endingOf, nameCall};
 use grid_run::GridRolled;
 use names::place::Place;
 use rule::Ending;
 use session::Begun;
 use session::Session;
+use shapefile::Layer;
+use shapefile::Part;
 use sheet::Answer;
 use sheet::OUTPUT_TOO_SHORT;
 use sheet::Verdict;
@@ -108,6 +112,45 @@ pub extern "C" fn fissure_cells(
         cell_listing::cell_tracks_bytes(s, g, column, row, out),
         second,
     )
+}
+
+// Reads a sheet and writes a file of its roll (SHEETS 12); gives the length written.
+fn export(layer: Layer, part: Part, s: &[u8], out: &mut [u8], second: &mut u64) -> u64
+    ensures { λ r. ⌜ (r, now (second .exit), now (out .exit)) ≡ exportCall layer part (now (s .entry)) (now (out .entry)) ⌝ }
+{
+    tell(shape_layers::of_bytes(layer, part, s, out), second)
+}
+
+// The traces as PolyLines: the main file.
+#[no_mangle]
+pub extern "C" fn fissure_traces_shp(s: &[u8], out: &mut [u8], second: &mut u64) -> u64
+    ensures { λ r. ⌜ (r, now (second .exit), now (out .exit)) ≡ exportCall Traces Main (now (s .entry)) (now (out .entry)) ⌝ }
+{
+    export(Layer::Traces, Part::Main, s, out, second)
+}
+
+// Its index.
+#[no_mangle]
+pub extern "C" fn fissure_traces_shx(s: &[u8], out: &mut [u8], second: &mut u64) -> u64
+    ensures { λ r. ⌜ (r, now (second .exit), now (out .exit)) ≡ exportCall Traces Index (now (s .entry)) (now (out .entry)) ⌝ }
+{
+    export(Layer::Traces, Part::Index, s, out, second)
+}
+
+// The ends as Points: the main file.
+#[no_mangle]
+pub extern "C" fn fissure_ends_shp(s: &[u8], out: &mut [u8], second: &mut u64) -> u64
+    ensures { λ r. ⌜ (r, now (second .exit), now (out .exit)) ≡ exportCall Ends Main (now (s .entry)) (now (out .entry)) ⌝ }
+{
+    export(Layer::Ends, Part::Main, s, out, second)
+}
+
+// Its index.
+#[no_mangle]
+pub extern "C" fn fissure_ends_shx(s: &[u8], out: &mut [u8], second: &mut u64) -> u64
+    ensures { λ r. ⌜ (r, now (second .exit), now (out .exit)) ≡ exportCall Ends Index (now (s .entry)) (now (out .entry)) ⌝ }
+{
+    export(Layer::Ends, Part::Index, s, out, second)
 }
 
 // The numbers of a session: one, the rows shown.

@@ -17,6 +17,10 @@ ghost use Rattle.shapefile.specs.Files.{fileOf};
 ghost use Rattle.byte_order.specs.Bytes.{leBytes};
 use byte_order::Order;
 use shape_records::Bounds;
+use shape_records::INTEGER;
+use shape_records::POINT;
+use shape_records::POLYLINE;
+use shape_records::RECORD_HEADER;
 use shape_records::Shape;
 use shapefile::Layer;
 use shapefile::Part;
@@ -24,6 +28,38 @@ use shapefile::Passage;
 use sheet::Answer;
 use sheet::OUTPUT_TOO_SHORT;
 
+// The bytes of a header, and where its fields stand (SHEETS 12.2).
+pub const HEADER: usize = 100;
+
+const UNUSED: usize = INTEGER;
+
+const UNUSED_BYTES: usize = LENGTH - UNUSED;
+
+const LENGTH: usize = 24;
+
+const VERSION: usize = 28;
+
+const TYPE: usize = 32;
+
+const BOX: usize = 36;
+
+const RANGES: usize = 68;
+
+const RANGES_BYTES: usize = HEADER - RANGES;
+
+// The file code and the version.
+const FILE_CODE: u64 = 9994;
+
+const OF_1998: u64 = 1000;
+
+// The bytes of an index entry (SHEETS 12.7), and those of a word, in which lengths and offsets are counted.
+pub const ENTRY: usize = 2 * INTEGER;
+
+const WORD: usize = 2;
+
+const HEADER_WORDS: usize = HEADER / WORD;
+
+// The shape of a tip's way (SHEETS 12.4, 12.5).
 fn shape_of(layer: Layer, p: Passage) -> Shape
     ensures { λ r. ⌜ (r ≡ inDoubles (figure layer p)) × NarrowFigure (figure layer p) ⌝ }
 {
@@ -39,19 +75,21 @@ fn shape_of(layer: Layer, p: Passage) -> Shape
     }
 }
 
+// The shape type (SHEETS 12.2).
 fn code_of(layer: Layer) -> u64
     ensures { λ r. ⌜ r ≡ typeOf layer ⌝ }
 {
     match layer {
-        Layer::Ends => 1,
-        Layer::Traces => 3,
+        Layer::Ends => POINT,
+        Layer::Traces => POLYLINE,
     }
 }
 
+// Inside out: the first point makes it the box of that point.
 fn no_bounds() -> Bounds
     ensures { λ r. ⌜ r ≡ boundsOf inverted ⌝ }
 {
-    let top = doubles::double_of(4294967295);
+    let top = doubles::double_of(u32::MAX);
     let zero = doubles::double_of(0);
     Bounds {
         left: top,
@@ -61,7 +99,7 @@ fn no_bounds() -> Bounds
     }
 }
 
-// Zeros where no point widened the box.
+// Zeros where no point has widened it (SHEETS 12.6).
 fn closed_bounds(b: Bounds) -> Bounds
     ensures { λ r. ⌜ r ≡ closed b ⌝ }
 {
@@ -77,6 +115,7 @@ fn closed_bounds(b: Bounds) -> Bounds
     b
 }
 
+// The box of a file (SHEETS 12.6).
 fn bounds_of(layer: Layer, passages: [Passage; 256], n: usize) -> Bounds
     requires { ⌜ n ≤ 256 ⌝ }
     ensures { λ r. ⌜ (r ≡ boundsOf (extent (pointsOf (figures layer (take n passages))))) × NarrowExtent (extent (pointsOf (figures layer (take n passages)))) ⌝ }
@@ -108,32 +147,34 @@ fn size_of(layer: Layer, passages: [Passage; 256], n: usize) -> usize
     total
 }
 
-// The first 36 bytes of a header.
+// A header up to its box.
 fn put_title(out: &mut [u8], words: u64, code: u64)
     requires { ⌜ 100 ≤ length (now out) ⌝ }
     ensures { λ r. ⌜ now (out .exit) ≡ sets (now (out .entry)) 0 (big 9994 ++ (leBytes 20 0 ++ (big words ++ (little 1000 ++ little code)))) ⌝ }
 {
-    byte_order::put_in(Order::HighFirst, out, 0, 4, 9994);
-    byte_order::put(out, 4, 20, 0);
-    byte_order::put_in(Order::HighFirst, out, 24, 4, words);
-    byte_order::put(out, 28, 4, 1000);
-    byte_order::put(out, 32, 4, code);
+    byte_order::put_in(Order::HighFirst, out, 0, INTEGER, FILE_CODE);
+    byte_order::put_in(Order::LowFirst, out, UNUSED, UNUSED_BYTES, 0);
+    byte_order::put_in(Order::HighFirst, out, LENGTH, INTEGER, words);
+    byte_order::put_in(Order::LowFirst, out, VERSION, INTEGER, OF_1998);
+    byte_order::put_in(Order::LowFirst, out, TYPE, INTEGER, code);
 }
 
+// The whole header, with unused ranges of Z and M (SHEETS 12.2).
 fn put_header(out: &mut [u8], words: u64, code: u64, b: Bounds)
     requires { ⌜ (100 ≤ length (now out)) × BoundsSound b ⌝ }
     ensures { λ r. ⌜ now (out .exit) ≡ sets (now (out .entry)) 0 (header code words (boundsBytes b)) ⌝ }
 {
     put_title(out, words, code);
-    shape_records::put_bounds(out, 36, b);
-    byte_order::put(out, 68, 32, 0);
+    shape_records::put_bounds(out, BOX, b);
+    byte_order::put_in(Order::LowFirst, out, RANGES, RANGES_BYTES, 0);
 }
 
+// The records, numbered from 1 (SHEETS 12.3).
 fn put_records(out: &mut [u8], layer: Layer, passages: [Passage; 256], n: usize)
     requires { ⌜ (n ≤ 256) × (100 + length (recordsFrom 1 (figures layer (take n passages))) ≤ length (now out)) ⌝ }
     ensures { λ r. ⌜ now (out .exit) ≡ sets (now (out .entry)) 100 (recordsFrom 1 (figures layer (take n passages))) ⌝ }
 {
-    let mut at: usize = 100;
+    let mut at = HEADER;
     let mut i: usize = 0;
     while i < n {
         let p = passages[i];
@@ -149,38 +190,44 @@ fn main_file(layer: Layer, passages: [Passage; 256], n: usize, out: &mut [u8]) -
     ensures { λ r. ⌜ Exports accepted (mainFile (typeOf layer) (figures layer (take n passages))) (now (out .entry)) (now (out .exit)) r ⌝ }
 {
     let size = size_of(layer, passages, n);
-    let total = 100 + size;
+    let total = HEADER + size;
     if out.len() < total {
         return Answer::Refused(OUTPUT_TOO_SHORT, total);
     }
     let b = bounds_of(layer, passages, n);
     let code = code_of(layer);
-    put_header(out, (50 + size / 2) as u64, code, b);
+    put_header(out, (total / WORD) as u64, code, b);
     put_records(out, layer, passages, n);
     Answer::Gives(total)
 }
 
-// Offset and Content Length of one record.
+// Where a record begins, and the length of its contents, in words (SHEETS 12.7).
 fn put_entry(out: &mut [u8], at: usize, offset: u64, words: u64)
     requires { ⌜ at + 8 ≤ length (now out) ⌝ }
     ensures { λ r. ⌜ now (out .exit) ≡ sets (now (out .entry)) at (big offset ++ big words) ⌝ }
 {
-    byte_order::put_in(Order::HighFirst, out, at, 4, offset);
-    byte_order::put_in(Order::HighFirst, out, at + 4, 4, words);
+    byte_order::put_in(Order::HighFirst, out, at, INTEGER, offset);
+    byte_order::put_in(Order::HighFirst, out, at + INTEGER, INTEGER, words);
 }
 
+// An entry for each record.
 fn put_entries(out: &mut [u8], layer: Layer, passages: [Passage; 256], n: usize)
     requires { ⌜ (n ≤ 256) × (100 + 8 * n ≤ length (now out)) ⌝ }
     ensures { λ r. ⌜ now (out .exit) ≡ sets (now (out .entry)) 100 (entriesFrom 50 (figures layer (take n passages))) ⌝ }
 {
-    let mut offset: usize = 50;
+    let mut offset = HEADER_WORDS;
     let mut i: usize = 0;
     while i < n {
         let p = passages[i];
         let s = shape_of(layer, p);
         let size = shape_records::record_size(s);
-        put_entry(out, 100 + 8 * i, offset as u64, ((size - 8) / 2) as u64);
-        offset += size / 2;
+        put_entry(
+            out,
+            HEADER + ENTRY * i,
+            offset as u64,
+            ((size - RECORD_HEADER) / WORD) as u64,
+        );
+        offset += size / WORD;
         i += 1;
     }
 }
@@ -190,13 +237,13 @@ fn index_file(layer: Layer, passages: [Passage; 256], n: usize, out: &mut [u8]) 
     requires { ⌜ n ≤ 256 ⌝ }
     ensures { λ r. ⌜ Exports accepted (indexFile (typeOf layer) (figures layer (take n passages))) (now (out .entry)) (now (out .exit)) r ⌝ }
 {
-    let total = 100 + 8 * n;
+    let total = HEADER + ENTRY * n;
     if out.len() < total {
         return Answer::Refused(OUTPUT_TOO_SHORT, total);
     }
     let b = bounds_of(layer, passages, n);
     let code = code_of(layer);
-    put_header(out, (50 + 4 * n) as u64, code, b);
+    put_header(out, (total / WORD) as u64, code, b);
     put_entries(out, layer, passages, n);
     Answer::Gives(total)
 }

@@ -14,6 +14,15 @@ use sheet::Answer;
 use sheet::Sheet;
 use sheet::Verdict;
 
+// The bytes of the longest files, those of 256 tracks: a header, and a record or an index entry for each.
+pub const LONGEST_TRACES_SHP: usize = shape_files::HEADER + passages::MOST * shape_records::TRACE_RECORD;
+
+pub const LONGEST_TRACES_SHX: usize = shape_files::HEADER + passages::MOST * shape_files::ENTRY;
+
+pub const LONGEST_ENDS_SHP: usize = shape_files::HEADER + passages::MOST * shape_records::END_RECORD;
+
+pub const LONGEST_ENDS_SHX: usize = LONGEST_TRACES_SHX;
+
 // A file of an accepted sheet's roll, or 12.
 fn export(layer: Layer, part: Part, sheet: Sheet, out: &mut [u8]) -> Answer
     requires { ⌜ Handed sheet ⌝ }
@@ -25,8 +34,8 @@ fn export(layer: Layer, part: Part, sheet: Sheet, out: &mut [u8]) -> Answer
     shape_files::write(layer, part, passages, sheet.ntracks, out)
 }
 
-// A file of records handed in.
-fn of_records(layer: Layer, part: Part, sheet: Sheet, out: &mut [u8]) -> Answer
+// The file of a layer, of records handed in.
+pub fn of_records(layer: Layer, part: Part, sheet: Sheet, out: &mut [u8]) -> Answer
     ensures { λ r. ⌜ Exports (checkOf sheet) (layerFile layer part (handedIn sheet)) (now (out .entry)) (now (out .exit)) r ⌝ }
 {
     let v = sheet_writer::check(sheet);
@@ -36,8 +45,8 @@ fn of_records(layer: Layer, part: Part, sheet: Sheet, out: &mut [u8]) -> Answer
     }
 }
 
-// A file of a sheet's bytes.
-fn of_bytes(layer: Layer, part: Part, s: &[u8], out: &mut [u8]) -> Answer
+// The same, of a sheet's bytes.
+pub fn of_bytes(layer: Layer, part: Part, s: &[u8], out: &mut [u8]) -> Answer
     ensures { λ r. ⌜ Exports (verdictOf (now (s .entry))) (layerFile layer part (listing (commandsOf (now (s .entry))))) (now (out .entry)) (now (out .exit)) r ⌝ }
 {
     let v = sheet_reader::scan(s);

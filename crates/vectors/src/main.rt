@@ -2,6 +2,7 @@
 // length of the rest in two, low byte first, and the rest. Kind 0 is a sheet's bytes (sheets.rt), 1 records handed in (records.rt),
 // any other a name that is looked up (lookup.rt).
 mod answers;
+mod layers;
 mod lookup;
 mod records;
 mod sheets;

@@ -1,4 +1,4 @@
-// Records handed in: the check's answer, then four lines as for a sheet's bytes, with the refusal wherever the call refuses.
+// Records handed in: the check's answer, then five lines as for a sheet's bytes, with the refusal wherever the call refuses.
 // A frame has the numbers of tracks and of walls (64 bits each), how many tracks are listed (16), the listed tracks and the listed walls (10 bytes
 // each, the walls to the end). Places of the arrays behind the listed ones are blank.
 ghost use Prim.Native.Nat.{_+_, _≤_, _<_};
@@ -9,6 +9,7 @@ use crate::answers::print_ids;
 use crate::answers::print_refusal;
 use crate::answers::print_rows;
 use crate::answers::print_text;
+use crate::layers::print_of_records;
 use byte_order::get16;
 use byte_order::signed;
 use sheet::Sheet;
@@ -176,4 +177,5 @@ pub fn answer(s: &[u8]) {
     print_form(sheet);
     print_rolls(sheet);
     print_listed(sheet);
+    print_of_records(sheet);
 }

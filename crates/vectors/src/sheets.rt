@@ -1,5 +1,6 @@
-// A sheet's bytes: `refused` with the table's two numbers, or four lines: the numbers of tracks and walls with the ordered form in
-// hexadecimal; the plain run's rows; the cells entered at each of the six figures; the ids listed for each cell under 2 and 4.
+// A sheet's bytes: `refused` with the table's two numbers, or five lines: the numbers of tracks and walls with the ordered form in
+// hexadecimal; the plain run's rows; the cells entered at each of the six figures; the ids listed for each cell under 2 and 4; the files of its
+// layers.
 ghost use Prim.Native.Nat.{_<_};
 use crate::answers::print_cells;
 use crate::answers::print_form;
@@ -7,6 +8,7 @@ use crate::answers::print_ids;
 use crate::answers::print_refusal;
 use crate::answers::print_rows;
 use crate::answers::print_text;
+use crate::layers::print_of_bytes;
 use sheet::Verdict;
 
 fn grid_at(s: &[u8], g: u64, rows: &[u8]) {
@@ -66,6 +68,7 @@ pub fn answer(s: &[u8]) {
             print_form(sheet);
             print_rolls(s);
             print_listed(s);
+            print_of_bytes(s);
         }
         Verdict::Refused(number, place) => {
             print_refusal(number, place);

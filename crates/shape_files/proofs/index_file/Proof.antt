@@ -4,7 +4,7 @@ use Rattle.shape_records.proofs.Contents.{extent-sound}
 use Rattle.shapefile.specs.Files.{figures, typeOf}
 use Rattle.shape_files.proofs.Whole.{short-so, long-so, figures-length, index-length, index-put}
 use native.Mathlib.Omega.{arith}
-use Prim.Native.Nat.{_+_, _*_}
+use Prim.Native.Nat.{_/_, _+_, _*_}
 use mathlib.Core.Path.{_≡_}
 use lib.ListN.{length, take}
 use Rattle.shape_files.proofs.index_file.Statement.{statement}
@@ -33,12 +33,6 @@ bounds-of-requires c κs = search needs
 code-of-requires : tie.Need-code-of-requires
 code-of-requires c κs = search needs
 
-mul-put-header : tie.Need-mul-put-header
-mul-put-header c = search needs
-
-add-put-header : tie.Need-add-put-header
-add-put-header c = search needs
-
 put-header-requires : tie.Need-put-header-requires
 put-header-requires c κs =
     let b = c .before .before .bounds-of .ensures in
@@ -59,10 +53,10 @@ returns-2 c =
     let e : length (a .passages) ≡ 256 = search needs in
     let k = figures-length (a .layer) (a .n) (a .passages) (omega arith) in
     let g : length (indexFile t f) ≡ 100 + 8 * a .n = omega (arith, index-length t f) in
-    let w : 50 + 4 * a .n ≡ 50 + 4 * length f = omega arith in
+    let w : (100 + 8 * a .n) / 2 ≡ 50 + 4 * length f = omega arith in
     let b = c .before .before .before .before .before .before .before .before .before .bounds-of .ensures in
     let p = rw (c .before .before .before .before .before .before .before .before .code-of .ensures) at (c .before .before .before .before .before .before .put-header .ensures) in
-    long-so (indexFile t f) (a .out .now) g (c .before .before .before .before .before .before .before .before .before .before .if1 .left) (index-put (a .out .now) t (50 + 4 * a .n) f (b .0) (b .1) p w (c .before .before .put-entries .ensures))
+    long-so (indexFile t f) (a .out .now) g (c .before .before .before .before .before .before .before .before .before .before .if1 .left) (index-put (a .out .now) t ((100 + 8 * a .n) / 2) f (b .0) (b .1) p w (c .before .before .put-entries .ensures))
 
 pub index-file-spec : {M : Type 1} → statement M
 index-file-spec =
@@ -73,8 +67,6 @@ index-file-spec =
     returns
     bounds-of-requires
     code-of-requires
-    mul-put-header
-    add-put-header
     put-header-requires
     put-entries-requires
     same-length

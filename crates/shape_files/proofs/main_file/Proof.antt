@@ -31,9 +31,6 @@ bounds-of-requires c κs = search needs
 code-of-requires : tie.Need-code-of-requires
 code-of-requires c κs = search needs
 
-add-put-header : tie.Need-add-put-header
-add-put-header c = search needs
-
 put-header-requires : tie.Need-put-header-requires
 put-header-requires c κs =
     let b = c .before .before .bounds-of .ensures in
@@ -53,10 +50,10 @@ returns-2 c =
     let size = c .before .before .before .before .before .before .before .before .before .before .before .size-of .result in
     let e : size ≡ length (recordsFrom 1 f) = c .before .before .before .before .before .before .before .before .before .before .before .size-of .ensures .0 in
     let g : length (mainFile t f) ≡ 100 + size = omega (arith, main-length t f) in
-    let w : 50 + size / 2 ≡ 50 + length (recordsFrom 1 f) / 2 = omega arith in
+    let w : (100 + size) / 2 ≡ 50 + length (recordsFrom 1 f) / 2 = omega arith in
     let b = c .before .before .before .before .before .before .before .before .before .bounds-of .ensures in
     let p = rw (c .before .before .before .before .before .before .before .before .code-of .ensures) at (c .before .before .before .before .before .before .put-header .ensures) in
-    long-so (mainFile t f) (a .out .now) g (c .before .before .before .before .before .before .before .before .before .before .if1 .left) (main-put (a .out .now) t (50 + size / 2) f (b .0) (b .1) p w (c .before .before .put-records .ensures))
+    long-so (mainFile t f) (a .out .now) g (c .before .before .before .before .before .before .before .before .before .before .if1 .left) (main-put (a .out .now) t ((100 + size) / 2) f (b .0) (b .1) p w (c .before .before .put-records .ensures))
 
 pub main-file-spec : {M : Type 1} → statement M
 main-file-spec =
@@ -67,7 +64,6 @@ main-file-spec =
     returns
     bounds-of-requires
     code-of-requires
-    add-put-header
     put-header-requires
     put-records-requires
     same-length

@@ -12,11 +12,11 @@ add-put-in c = search needs
 put-in-requires-2 : tie.Need-put-in-requires-2
 put-in-requires-2 c κs = search needs
 
-add-put : tie.Need-add-put
-add-put c = search needs
+add-put-in-2 : tie.Need-add-put-in-2
+add-put-in-2 c = search needs
 
-put-requires : tie.Need-put-requires
-put-requires c κs = search needs
+put-in-requires-3 : tie.Need-put-in-requires-3
+put-in-requires-3 c κs = search needs
 
 same-length : tie.Need-same-length
 same-length c = search needs
@@ -24,7 +24,7 @@ same-length c = search needs
 returns : tie.Need-returns
 returns c =
     let a = c .before .before .before .before .before .before .before .before .before .before .before .before .before .args in
-    head-put (a .out .now) (a .at) (a .n) (a .words) (a .code) (c .before .before .before .before .before .before .before .before .before .before .put-in .ensures) (c .before .before .before .before .before .before .put-in2 .ensures) (c .before .before .put .ensures)
+    head-put (a .out .now) (a .at) (a .n) (a .words) (a .code) (c .before .before .before .before .before .before .before .before .before .before .put-in .ensures) (c .before .before .before .before .before .before .put-in2 .ensures) (c .before .before .put-in3 .ensures)
 
 pub put-head-spec : {M : Type 1} → statement M
 put-head-spec =
@@ -33,7 +33,7 @@ put-head-spec =
     put-in-requires
     add-put-in
     put-in-requires-2
-    add-put
-    put-requires
+    add-put-in-2
+    put-in-requires-3
     same-length
     returns)
