@@ -1,13 +1,13 @@
 -- Names and files that are ready: `joined`, `no-room`; `given`, `not-given`.
 use mathlib.Core.Path.{_≡_, refl, sym, ap, _∙_}
-use mathlib.Core.List.{List, [], _++_}
+use mathlib.Core.List.{List, [], _++_, append-assoc}
 use Prim.Native.Nat.{ℕ, _+_, _≤_, _<_}
 use native.Mathlib.Omega.{arith}
 use borrow.Author.Tests.{lt-ltb, le-ltb}
 use lib.ListN.{length, take, drop, length-append}
-use lib.Seq.{take-append-seam}
+use lib.Seq.{take-append-seam, take-length}
 use Rattle.sheet.specs.Returned.{Returned, gives, refused}
-use Rattle.sheet.specs.Lent.{andThen, orShort, after}
+use Rattle.sheet.specs.Lent.{after}
 use Rattle.sheet.proofs.Decided.{Decided}
 use Rattle.sheet.proofs.Lent.{gave, put}
 use Rattle.shape_files.specs.Exported.{fileReturns}
@@ -39,9 +39,18 @@ with-room base ending room h =
     let g : length (base ++ ending) ≤ room = omega (arith, length-append base ending) in
     rw (le-ltb room (length (base ++ ending)) g) refl
 
+-- the first part copied to the front of a buffer, and the second to the front of what is behind it
+pub joined : (base ending path mid post : List ℕ) {p1 part : List ℕ} → p1 ≡ take (length base) base ++ drop (length base) path → part ≡ take (length ending) ending ++ drop (length ending) mid
+    → length base + length ending ≤ length path → Starts (nameOf base ending (length path)) (take (length base) p1 ++ (part ++ post)) (length base + length ending)
+joined base ending path mid post {p1} {part} e f h =
+    let front : take (length base) p1 ≡ base = ap (take (length base)) (e ∙ ap (λ (l : List ℕ). l ++ drop (length base) path) (take-length base)) ∙ take-append-seam base (drop (length base) path) in
+    let back : part ≡ ending ++ drop (length ending) mid = f ∙ ap (λ (l : List ℕ). l ++ drop (length ending) mid) (take-length ending) in
+    let all : take (length base) p1 ++ (part ++ post) ≡ (base ++ ending) ++ (drop (length ending) mid ++ post) = rw (front, back) (simp append-assoc) in
+    rw (with-room base ending (length path) h) (in-front (base ++ ending) (drop (length ending) mid ++ post) (sym (length-append base ending)) all)
+
 -- ---- a file
 
-module _ {v : Returned} (d : Decided v) (file before exit : List ℕ) (b : exit ≡ after (fileReturns v file (length before)) file before) where
+module _ (v : Returned) (d : Decided v) (file before exit : List ℕ) (b : exit ≡ after (fileReturns v file (length before)) file before) where
   pub given : {n : ℕ} → gives n ≡ fileReturns v file (length before) → Starts (ifGiven (fileReturns v file (length before)) file) exit n
   unfolding ifGiven
   given {n} e =

@@ -1,59 +1,40 @@
-use borrow.Author.Needs.{needs}
-use native.Mathlib.Omega.{arith}
-use Prim.Native.Nat.{ℕ, _≤_, _<_, _-_, _+_, _*_}
-use mathlib.Core.Path.{_≡_}
-use lib.ListN.{length, getD, take, drop, set}
+-- The name and the bytes that are ready.
+use mathlib.Core.Path.{sym}
+use lib.Seq.{length-take-le}
 use borrow.Author.Needs.{needs}
 use Rattle.shapes.proofs.export.Statement.{statement}
 use Rattle.shapes.proofs.export.Tie as tie
-use Rattle.shapes.proofs.export.Reads as reads
-use Rattle.shapes.proofs.export.Lts as lts
-use Rattle.io.proofs.buffer.Reads as buffer-reads
-use Rattle.shapes.proofs.fill.Reads as fill-reads
-use Rattle.shapes.proofs.name.Reads as name-reads
-use Rattle.shapes.proofs.save.Reads as save-reads
 
--- src/main.rt:66:41
 slice-aggregate-fill : tie.Need-slice-aggregate-fill
 slice-aggregate-fill c = search needs
 
--- src/main.rt:66:9
 fill-requires : tie.Need-fill-requires
 fill-requires c κs = search needs
 
--- src/main.rt:67:20
 buffer-requires : tie.Need-buffer-requires
 buffer-requires c κs = search needs
 
--- src/main.rt:68:32
 slice-aggregate-name : tie.Need-slice-aggregate-name
 slice-aggregate-name c = search needs
 
--- src/main.rt:68:9
 name-requires : tie.Need-name-requires
 name-requires c κs = search needs
 
--- src/main.rt:69:10
 array-share-prefix-path : tie.Need-array-share-prefix-path
 array-share-prefix-path c = search needs
 
--- src/main.rt:69:10
 slice-aggregate-save : tie.Need-slice-aggregate-save
-slice-aggregate-save c = search needs
+slice-aggregate-save c = sym (length-take-le _ _ (c .before .before .name .ensures .in-buffer))
 
--- src/main.rt:69:22
 array-share-prefix-file : tie.Need-array-share-prefix-file
 array-share-prefix-file c = search needs
 
--- src/main.rt:69:22
 slice-aggregate-save-2 : tie.Need-slice-aggregate-save-2
-slice-aggregate-save-2 c = search needs
+slice-aggregate-save-2 c = sym (length-take-le _ _ (c .before .before .before .before .before .before .before .fill .ensures .in-buffer))
 
--- src/main.rt:69:5
 save-requires : tie.Need-save-requires
 save-requires c κs = search needs
 
--- src/main.rt:64:1
 returns : tie.Need-returns
 returns c = search needs
 
