@@ -1,7 +1,7 @@
 //! The programs in C and in Rust: `roll` prints for each sheet of examples/ what program `roll` in Rattle prints, `desk` what it should.
 //! Program `shapes`, in Rattle and in C, writes the files that the reference implementation expects.
 
-use fissures::SHAPEFILES;
+use fissures::{Shapefile, SHAPEFILES};
 use reference::refusal::Refusal;
 use reference::roll::roll;
 use reference::shapefile::files;
@@ -112,7 +112,9 @@ fn writes_the_files(program: &str) {
         let printed = prints(&root().join(program), &folder.join("base"), &sheet);
         match expected_files(&sheet) {
             Ok(files) => {
-                assert_eq!(printed, "");
+                let base = folder.join("base");
+                let line = |(file, bytes): (&Shapefile, &Vec<u8>)| format!("{}-{} {}\n", base.display(), file.name, bytes.len());
+                assert_eq!(printed, SHAPEFILES.iter().zip(&files).map(line).collect::<String>());
                 written = Some(files);
             }
             Err(Refusal { number, place }) => assert_eq!(printed, format!("refused {number} {place}\n")),

@@ -1,5 +1,5 @@
 /* Reads a sheet from standard input and writes the shapefiles of its roll with the proved library, BASE-traces.shp, BASE-traces.shx,
- * BASE-ends.shp and BASE-ends.shx, or prints its refusal: what program `shapes` does.
+ * BASE-ends.shp and BASE-ends.shx, each with a line, or prints its refusal: what program `shapes` does.
  * From the repository's root:
  *   rt staticlib fissures_c
  *   cc -std=c99 -Ibindings examples/c/shapes.c target/staticlib/libfissures_c.a -o target/shapes-c
@@ -25,14 +25,16 @@ static const struct {
 static uint8_t sheet[FISSURE_ENOUGH];
 static uint8_t out[FISSURE_LONGEST_TRACES_SHP]; /* no file is longer */
 
-/* Writes the first bytes of `out` to a file; whether that succeeded. */
+/* Writes the first bytes of `out` to a file and says so; whether that succeeded. */
 static int store(const char *base, const char *end_of_name, size_t length) {
     char name[4096];
     if (snprintf(name, sizeof name, "%s-%s", base, end_of_name) >= (int)sizeof name) return 0;
     FILE *file = fopen(name, "wb");
     if (file == NULL) return 0;
     int stored = fwrite(out, 1, length, file) == length;
-    return fclose(file) == 0 && stored;
+    if (fclose(file) != 0 || !stored) return 0;
+    printf("%s %zu\n", name, length);
+    return 1;
 }
 
 int main(int count, char **arguments) {

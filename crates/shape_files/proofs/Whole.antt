@@ -24,7 +24,7 @@ use Rattle.sheet.specs.declared.Answer.{Answer}
 use Rattle.sheet.specs.Returned.{Returned, accepted}
 use Rattle.shapefile.specs.declared.Part.{Part}
 use Rattle.shapefile.specs.declared.Part.the-variants.{Main, Index}
-use Rattle.shapefile.specs.Files.{recordsFrom, entriesFrom, mainFile, indexFile, typeOf, figure, figures, fileOf}
+use Rattle.shapefile.specs.Files.{recordsFrom, entriesFrom, mainFile, indexFile, typeOf, figures, fileOf}
 use Rattle.shape_files.specs.Exported.{Exports}
 
 -- ---- what is returned
@@ -81,6 +81,9 @@ figures-length k (suc n) (p ∷ l) h = ap suc (figures-length k n l (omega arith
 pub index-length : (t : ℕ) (l : List Figure) → length (indexFile t l) ≡ 100 + 8 * length l
 unfolding indexFile
 index-length t l = length-append (header t (50 + 4 * length l) (extentBytes (extent (pointsOf l)))) (entriesFrom 50 l) ∙ rw (head-length t l (50 + 4 * length l), entries-length 50 l) refl
+
+pub index-size : (k : Layer) (n : ℕ) (l : List Passage) → n ≤ length l → length (indexFile (typeOf k) (figures k (take n l))) ≡ 100 + 8 * n
+index-size k n l h = omega (arith, index-length (typeOf k) (figures k (take n l)), figures-length k n l h)
 
 -- ---- what is stored: the header w words on, and the rest behind it
 

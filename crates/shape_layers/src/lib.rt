@@ -15,11 +15,13 @@ use sheet::Sheet;
 use sheet::Verdict;
 
 // The bytes of the longest files, those of 256 tracks: a header, and a record or an index entry for each.
-pub const LONGEST_TRACES_SHP: usize = shape_files::HEADER + passages::MOST * shape_records::TRACE_RECORD;
+pub const LONGEST_TRACES_SHP: usize = shape_files::HEADER
+    + passages::MOST * shape_records::TRACE_RECORD;
 
 pub const LONGEST_TRACES_SHX: usize = shape_files::HEADER + passages::MOST * shape_files::ENTRY;
 
-pub const LONGEST_ENDS_SHP: usize = shape_files::HEADER + passages::MOST * shape_records::END_RECORD;
+pub const LONGEST_ENDS_SHP: usize = shape_files::HEADER
+    + passages::MOST * shape_records::END_RECORD;
 
 pub const LONGEST_ENDS_SHX: usize = LONGEST_TRACES_SHX;
 

@@ -6,7 +6,6 @@ ghost use lib.ListN.{length};
 ghost use lib.Seq.{sets};
 ghost use Rattle.shapefile.specs.Layout.{recordBytes, pointBytes, pointContent, lineContent, big, little};
 ghost use Rattle.shape_records.specs.Shapes.{number, bits, lesser, greater, around, still, widen, boundsBytes, spanned, contentOf, BoundsSound, Sound};
-
 use byte_order::Order;
 use doubles::WIDTH;
 
@@ -225,6 +224,12 @@ pub fn record_size(s: Shape) -> usize
 {
     match s {
         Shape::End(x, y) => END_RECORD,
-        Shape::Trace(x, y, u, v) => { if is_still(x, y, u, v) { NULL_RECORD } else { TRACE_RECORD } }
+        Shape::Trace(x, y, u, v) => {
+            if is_still(x, y, u, v) {
+                NULL_RECORD
+            } else {
+                TRACE_RECORD
+            }
+        }
     }
 }

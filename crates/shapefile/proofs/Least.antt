@@ -1,6 +1,6 @@
--- The extent is "least and greatest x and y over all points" (`bounded`): no point lies outside it (`inside`), and a point lies on each of its sides (`reached`).
+-- The extent is the least and the greatest over all points (`bounded`): no point lies outside it (`inside`), and a point lies on each of its sides (`reached`).
 use Prim.Native.Nat.{ℕ, min, max}
-use mathlib.Core.Path.{_≡_, refl, sym, ap, _∙_}
+use mathlib.Core.Path.{_≡_, refl, ap, _∙_}
 use mathlib.Core.Logic.{_⊎_, inl, inr}
 use mathlib.Core.Bool.{Bool, true, false}
 use mathlib.Core.List.{List, [], _∷_, List·Memᴰ·head, List·Memᴰ·tail}

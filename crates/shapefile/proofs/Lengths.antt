@@ -1,12 +1,10 @@
 -- How long the parts of a shapefile are.
-use Prim.Native.Nat.{ℕ, _+_, _/_}
-use mathlib.Core.Path.{_≡_, refl, ap, _∙_}
-use mathlib.Core.List.{List, _++_}
+use Prim.Native.Nat.{ℕ, _+_}
+use mathlib.Core.Path.{_≡_}
+use mathlib.Core.List.{List}
 use native.Mathlib.Omega.{arith}
 use lib.ListN.{length, length-append}
-use Rattle.byte_order.specs.Bytes.{leBytes}
 use Rattle.byte_order.proofs.Bytes.{le-length}
-use Rattle.byte_order.specs.Orders.{beBytes}
 use Rattle.byte_order.proofs.Orders.{be-length}
 use Rattle.shapefile.specs.Layout.{boxBytes, header, nullContent, pointBytes, pointContent, lineContent, recordBytes}
 

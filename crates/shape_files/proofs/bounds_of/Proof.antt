@@ -1,3 +1,4 @@
+-- The box so far, of the points so far.
 use borrow.Author.Needs.{needs}
 use Rattle.shapefile.specs.Figures.{points}
 use lib.Dec.{lit<}

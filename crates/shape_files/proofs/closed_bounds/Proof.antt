@@ -1,3 +1,4 @@
+-- Zeros where the box is still inside out.
 use borrow.Author.Needs.{needs}
 use Rattle.shape_files.specs.Boxing.{closed}
 use mathlib.Core.Path.{refl}

@@ -1,3 +1,4 @@
+-- The type of each layer.
 use borrow.Author.Needs.{needs}
 use mathlib.Core.Path.{refl}
 use Rattle.shapefile.specs.Files.{typeOf}

@@ -1,8 +1,9 @@
+-- The header, and the entries behind it.
 use borrow.Author.Needs.{needs}
 use Rattle.shapefile.specs.Files.{indexFile}
 use Rattle.shape_records.proofs.Contents.{extent-sound}
 use Rattle.shapefile.specs.Files.{figures, typeOf}
-use Rattle.shape_files.proofs.Whole.{short-so, long-so, figures-length, index-length, index-put}
+use Rattle.shape_files.proofs.Whole.{short-so, long-so, figures-length, index-size, index-put}
 use native.Mathlib.Omega.{arith}
 use Prim.Native.Nat.{_/_, _+_, _*_}
 use mathlib.Core.Path.{_≡_}
@@ -23,9 +24,7 @@ returns c =
     let f = figures (a .layer) (take (a .n) (a .passages)) in
     let t = typeOf (a .layer) in
     let e : length (a .passages) ≡ 256 = search needs in
-    let k = figures-length (a .layer) (a .n) (a .passages) (omega arith) in
-    let g : length (indexFile t f) ≡ 100 + 8 * a .n = omega (arith, index-length t f) in
-    short-so (indexFile t f) (a .out .now) g (c .if1 .taken)
+    short-so (indexFile t f) (a .out .now) (index-size (a .layer) (a .n) (a .passages) (omega arith)) (c .if1 .taken)
 
 bounds-of-requires : tie.Need-bounds-of-requires
 bounds-of-requires c κs = search needs
@@ -52,11 +51,10 @@ returns-2 c =
     let t = typeOf (a .layer) in
     let e : length (a .passages) ≡ 256 = search needs in
     let k = figures-length (a .layer) (a .n) (a .passages) (omega arith) in
-    let g : length (indexFile t f) ≡ 100 + 8 * a .n = omega (arith, index-length t f) in
     let w : (100 + 8 * a .n) / 2 ≡ 50 + 4 * length f = omega arith in
     let b = c .before .before .before .before .before .before .before .before .before .bounds-of .ensures in
     let p = rw (c .before .before .before .before .before .before .before .before .code-of .ensures) at (c .before .before .before .before .before .before .put-header .ensures) in
-    long-so (indexFile t f) (a .out .now) g (c .before .before .before .before .before .before .before .before .before .before .if1 .left) (index-put (a .out .now) t ((100 + 8 * a .n) / 2) f (b .0) (b .1) p w (c .before .before .put-entries .ensures))
+    long-so (indexFile t f) (a .out .now) (index-size (a .layer) (a .n) (a .passages) (omega arith)) (c .before .before .before .before .before .before .before .before .before .before .if1 .left) (index-put (a .out .now) t ((100 + 8 * a .n) / 2) f (b .0) (b .1) p w (c .before .before .put-entries .ensures))
 
 pub index-file-spec : {M : Type 1} → statement M
 index-file-spec =

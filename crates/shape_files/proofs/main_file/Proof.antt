@@ -1,3 +1,4 @@
+-- The header, and the records behind it.
 use borrow.Author.Needs.{needs}
 use Rattle.shapefile.specs.Files.{recordsFrom, mainFile}
 use Rattle.shape_records.proofs.Contents.{extent-sound}

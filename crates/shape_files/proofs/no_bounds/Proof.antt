@@ -1,3 +1,4 @@
+-- The greatest number and 0, as doubles.
 use borrow.Author.Needs.{needs}
 use mathlib.Core.Path.{refl}
 use Rattle.shape_records.specs.Shapes.{boundsOf}

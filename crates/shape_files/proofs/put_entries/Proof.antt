@@ -1,3 +1,4 @@
+-- The entries not yet stored, stored behind those that are, are all entries.
 use borrow.Author.Needs.{needs}
 use Rattle.shapefile.specs.Figures.{content}
 use Rattle.shape_records.specs.Shapes.{contentOf}

@@ -1,3 +1,4 @@
+-- Two integers.
 use borrow.Author.Needs.{needs}
 use Rattle.byte_order.specs.Orders.{beBytes}
 use Rattle.byte_order.proofs.Orders.{be-length}

@@ -1,3 +1,4 @@
+-- Its three parts.
 use borrow.Author.Needs.{needs}
 use Rattle.shape_files.proofs.Heading.{header-put}
 use Rattle.shape_files.proofs.put_header.Statement.{statement}

@@ -1,3 +1,4 @@
+-- The records not yet stored, stored behind those that are, are all records.
 use borrow.Author.Needs.{needs}
 use Rattle.shapefile.specs.Figures.{content}
 use Rattle.shape_records.specs.Shapes.{contentOf}

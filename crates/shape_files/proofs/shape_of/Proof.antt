@@ -1,3 +1,4 @@
+-- Each coordinate as a double; 32 bits are within what doubles hold.
 use borrow.Author.Needs.{needs}
 use Rattle.shapefile.specs.Files.{figure}
 use mathlib.Core.Path.{refl}

@@ -1,3 +1,4 @@
+-- The records counted and those left are all of them.
 use borrow.Author.Needs.{needs}
 use Rattle.shapefile.specs.Figures.{content}
 use Rattle.shape_records.specs.Shapes.{contentOf}

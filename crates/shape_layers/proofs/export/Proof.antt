@@ -1,5 +1,5 @@
 -- The roll, the ways of its tips, and their file.
-use Prim.Native.Nat.{ℕ, zero}
+use Prim.Native.Nat.{zero}
 use native.Mathlib.Omega.{arith}
 use borrow.Author.Needs.{needs}
 use lib.ListN.{length-replicate}

@@ -1,3 +1,4 @@
+-- One or the other.
 use Rattle.shape_records.specs.Shapes.{greater}
 use mathlib.Core.Path.{refl}
 use Rattle.shape_records.proofs.greater_of.Statement.{statement}

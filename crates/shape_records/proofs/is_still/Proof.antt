@@ -1,3 +1,4 @@
+-- Both coordinates.
 use mathlib.Core.Path.{refl}
 use Rattle.shape_records.proofs.is_still.Statement.{statement}
 use Rattle.shape_records.proofs.is_still.Tie as tie

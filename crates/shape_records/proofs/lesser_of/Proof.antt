@@ -1,3 +1,4 @@
+-- One or the other.
 use Rattle.shape_records.specs.Shapes.{lesser}
 use mathlib.Core.Path.{refl}
 use Rattle.shape_records.proofs.lesser_of.Statement.{statement}

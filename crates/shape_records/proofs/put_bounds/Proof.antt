@@ -1,3 +1,4 @@
+-- Four doubles.
 use borrow.Author.Needs.{needs}
 use Rattle.shape_records.proofs.Records.{bounds-put}
 use Rattle.shape_records.proofs.put_bounds.Statement.{statement}

@@ -1,3 +1,4 @@
+-- Three integers.
 use borrow.Author.Needs.{needs}
 use Rattle.shape_records.proofs.Records.{counts-put}
 use Rattle.shape_records.proofs.put_counts.Statement.{statement}

@@ -1,3 +1,4 @@
+-- The head and the point.
 use borrow.Author.Needs.{needs}
 use Rattle.shape_records.proofs.Records.{end-put}
 use Rattle.shape_records.specs.Shapes.{bits}

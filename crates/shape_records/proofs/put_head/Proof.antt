@@ -1,3 +1,4 @@
+-- Three integers, two of them high byte first.
 use borrow.Author.Needs.{needs}
 use Rattle.shape_records.proofs.Records.{head-put}
 use Rattle.shape_records.proofs.put_head.Statement.{statement}

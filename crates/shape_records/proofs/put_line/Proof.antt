@@ -1,3 +1,4 @@
+-- The head, the box, the counts and the points.
 use borrow.Author.Needs.{needs}
 use Rattle.shape_records.proofs.Records.{line-put}
 use Rattle.shape_records.proofs.Contents.{bounds-length}

@@ -1,3 +1,4 @@
+-- Two doubles.
 use borrow.Author.Needs.{needs}
 use Rattle.shape_records.proofs.Records.{point-put}
 use Rattle.shape_records.proofs.put_point.Statement.{statement}

@@ -1,3 +1,4 @@
+-- A record of each form.
 use borrow.Author.Needs.{needs}
 use Rattle.shape_records.proofs.Records.{null-put}
 use mathlib.Core.Path.{refl, sym, _∙_}

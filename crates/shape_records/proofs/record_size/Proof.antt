@@ -1,3 +1,4 @@
+-- The length of each form.
 use borrow.Author.Needs.{needs}
 use Rattle.shapefile.proofs.Lengths.{null-content-length}
 use Rattle.shape_records.proofs.Contents.{end-length, still-content, line-content, line-length}

@@ -1,3 +1,4 @@
+-- The first point, widened by the second.
 use borrow.Author.Needs.{needs}
 use Rattle.shape_records.proofs.Contents.{spanned-sound}
 use Rattle.shape_records.specs.Shapes.{spanned}

@@ -1,3 +1,4 @@
+-- By one point, by two or by none.
 use borrow.Author.Needs.{needs}
 use Rattle.shape_records.specs.Shapes.{widen}
 use mathlib.Core.Path.{refl, sym, _∙_}

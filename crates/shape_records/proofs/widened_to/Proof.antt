@@ -1,3 +1,4 @@
+-- Each side.
 use borrow.Author.Needs.{needs}
 use Rattle.shape_records.specs.Shapes.{around}
 use mathlib.Core.Path.{refl}
