@@ -17,7 +17,7 @@ use Rattle.sheet.proofs.RoundTrip.{written-read}
 use Rattle.sheet_reader.specs.Reading.{recordsOf, ifAccepted}
 use Rattle.sheet_writer.specs.Written.{formOf, writeOf, bufferAfter}
 use Rattle.grid_run.specs.GridRolled.{withRows}
-use Rattle.fissures_c.specs.Answers.{number, other, told}
+use Rattle.c_answers.specs.Answers.{number, other, told}
 use Rattle.fissures_c.specs.Calls.{orderReturns, orderCall, countAfter}
 
 -- these two numbers were told

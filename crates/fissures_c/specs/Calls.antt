@@ -19,7 +19,7 @@ use Rattle.shapefile.specs.declared.Layer.{Layer}
 use Rattle.shapefile.specs.declared.Part.{Part}
 use Rattle.shape_files.specs.Exported.{fileReturns}
 use Rattle.shape_layers.specs.Layers.{layerFile}
-use Rattle.fissures_c.specs.Answers.{number, other, leaves}
+use Rattle.c_answers.specs.Answers.{number, other, leaves}
 
 -- reading a sheet and writing its ordered form (SHEETS 2.6)
 abbrev pub orderReturns : List ℕ → ℕ → Returned

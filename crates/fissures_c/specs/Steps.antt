@@ -19,7 +19,7 @@ use Rattle.rule.specs.Selection.{rollOf}
 use Rattle.session.specs.declared.Begun.{Begun}
 use Rattle.row.specs.Stored.{endingFrom}
 use Rattle.names.specs.Partner.{Part, ofTracks, ofWalls, partnerName}
-use Rattle.fissures_c.specs.Answers.{number, other, told, leaves}
+use Rattle.c_answers.specs.Answers.{number, other, told, leaves}
 
 -- ---- the session
 

@@ -2,12 +2,12 @@
 // the refusal, and stores the other number of its answer: the place or length of a refusal, or what an accepted call gives.
 ghost use mathlib.Core.Path.{_≡_};
 ghost use Rattle.sheet.specs.Scan.{verdictOf};
-ghost use Rattle.sheet.specs.Answer.{answered};
-ghost use Rattle.fissures_c.specs.Answers.{told};
+ghost use Rattle.c_answers.specs.Answers.{told};
 ghost use Rattle.fissures_c.specs.Calls.{orderCall, plainCall, gridCall, cellsCall, exportCall};
 ghost use Rattle.shapefile.specs.declared.Layer.the-variants.{Traces, Ends};
 ghost use Rattle.shapefile.specs.declared.Part.the-variants.{Main, Index};
 ghost use Rattle.fissures_c.specs.Steps.{Takes, startCall, advanceCall, runningCall, endingOf, nameCall};
+use c_answers::tell;
 use grid_run::GridRolled;
 use names::place::Place;
 use rule::Ending;
@@ -18,22 +18,6 @@ use shapefile::Part;
 use sheet::Answer;
 use sheet::OUTPUT_TOO_SHORT;
 use sheet::Verdict;
-
-// The two numbers of an answer: the first is handed back, the other stored.
-fn tell(answer: Answer, second: &mut u64) -> u64
-    ensures { λ r. ⌜ (r, now (second .exit)) ≡ told (answered answer) ⌝ }
-{
-    match answer {
-        Answer::Gives(n) => {
-            *second = n as u64;
-            0
-        }
-        Answer::Refused(number, other) => {
-            *second = other as u64;
-            number as u64
-        }
-    }
-}
 
 // The verdict on a sheet's bytes.
 #[no_mangle]

@@ -2,9 +2,9 @@
 use borrow.Author.Needs.{needs}
 use mathlib.Core.Path.{sym, ap}
 use Rattle.sheet.specs.Answer.{answered}
-use Rattle.fissures_c.specs.Answers.{told}
-use Rattle.fissures_c.proofs.tell.Statement.{statement}
-use Rattle.fissures_c.proofs.tell.Tie as tie
+use Rattle.c_answers.specs.Answers.{told}
+use Rattle.c_answers.proofs.tell.Statement.{statement}
+use Rattle.c_answers.proofs.tell.Tie as tie
 
 enum-known-answer : tie.Need-enum-known-answer
 enum-known-answer c = search needs
