@@ -113,7 +113,9 @@ fn writes_the_files(program: &str) {
         match expected_files(&sheet) {
             Ok(files) => {
                 let base = folder.join("base");
-                let line = |(file, bytes): (&Shapefile, &Vec<u8>)| format!("{}-{} {}\n", base.display(), file.name, bytes.len());
+                let line = |(file, bytes): (&Shapefile, &Vec<u8>)| {
+                    format!("{}-{} {}\n", base.display(), file.name, bytes.len())
+                };
                 assert_eq!(printed, SHAPEFILES.iter().zip(&files).map(line).collect::<String>());
                 written = Some(files);
             }
@@ -136,4 +138,24 @@ fn shapes_in_rattle() {
 fn shapes_in_c() {
     compile("shapes");
     writes_the_files("target/shapes-c");
+}
+
+/// The script makes the folder, and its status says whether the files are there.
+#[test]
+fn sheet_shp() {
+    let folder = Path::new(env!("CARGO_TARGET_TMPDIR")).join("sheet-shp");
+    let _ = fs::remove_dir_all(&folder);
+    let status = |sheet: &str| {
+        let mut command = Command::new(root().join("tools/sheet-shp"));
+        let command = command.arg(root().join("examples").join(sheet)).arg(folder.join("deep/base"));
+        command.stdout(Stdio::null()).status().expect("tools/sheet-shp").code()
+    };
+    assert_eq!(status("facing.sheet"), Some(1));
+    assert_eq!(status("none.sheet"), Some(2));
+    assert!(!folder.join("deep/base-ends.shp").exists());
+    assert_eq!(status("late.sheet"), Some(0));
+    let sheet = fs::read(root().join("examples/late.sheet")).expect("a sheet");
+    for (file, bytes) in SHAPEFILES.iter().zip(expected_files(&sheet).expect("accepted")) {
+        assert_eq!(fs::read(folder.join(format!("deep/base-{}", file.name))).expect("a file"), bytes);
+    }
 }
