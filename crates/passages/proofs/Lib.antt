@@ -1,3 +1,2 @@
-pub mod Looking
 pub mod OwnTrack
 pub mod Ways

@@ -1,12 +1,14 @@
 // The ways of a roll's tips (SHEETS 12.5), in roll order: a way starts where its tip's track does and ends where its row does.
 ghost use mathlib.Core.Path.{_≡_};
-ghost use Prim.Native.Nat.{_≤_};
-ghost use lib.ListN.{take};
+ghost use Prim.Native.Nat.{_*_, _≤_};
+ghost use lib.ListN.{length, take};
 ghost use Rattle.sheet.specs.HandedIn.{handedIn};
+ghost use Rattle.rule.specs.RowBytes.{rowWidth};
 ghost use Rattle.rule.specs.Selection.{rollOf};
 ghost use Rattle.records.specs.Records.{Handed};
-ghost use Rattle.passages.specs.Passages.{trackWith, passageOf, passagesOf};
+ghost use Rattle.passages.specs.Passages.{passagesOf};
 ghost use Rattle.passages.specs.InFront.{InFront};
+ghost use Rattle.passages.specs.Placed.{wayOf, PlaceOf};
 use row::Stored;
 use rule::Row;
 use shapefile::Passage;
@@ -19,35 +21,25 @@ pub const MOST: usize = 256;
 // 64ths in a unit (SHEETS 5.4).
 const PARTS: u32 = 64;
 
-// The track with an id, of the first n.
-fn track_with(tracks: [Track; 256], n: usize, id: u16) -> Track
-    requires { ⌜ n ≤ 256 ⌝ }
-    ensures { λ r. ⌜ r ≡ trackWith (take n tracks) id ⌝ }
+// The place of the row with an id among the first n, or n.
+fn place_of(rows: &[u8], n: usize, id: u16) -> usize
+    requires { ⌜ rowWidth * n ≤ length (now rows) ⌝ }
+    ensures { λ r. ⌜ PlaceOf (now (rows .entry)) n id r ⌝ }
 {
-    let mut i: usize = 0;
-    while i < n {
-        let a = tracks[i];
-        if a.id == id {
-            return a;
+    let mut k: usize = 0;
+    while k < n {
+        if row::id_from(rows, row::WIDTH * k) == id {
+            return k;
         }
-        i += 1;
+        k += 1;
     }
-    Track {
-        id: 0,
-        x: 0,
-        y: 0,
-        vx: 0,
-        vy: 0,
-        start: 0,
-    }
+    n
 }
 
-// The way of a row's tip, a track among the first n.
-fn passage_of(tracks: [Track; 256], n: usize, row: Row) -> Passage
-    requires { ⌜ n ≤ 256 ⌝ }
-    ensures { λ r. ⌜ r ≡ passageOf (take n tracks) row ⌝ }
+// From a track's start, in 64ths, to the end point of its row (SHEETS 12.5).
+fn way_of(a: Track, row: Row) -> Passage
+    ensures { λ r. ⌜ r ≡ wayOf a row ⌝ }
 {
-    let a = track_with(tracks, n, row.id);
     Passage {
         x: PARTS * (a.x as u32),
         y: PARTS * (a.y as u32),
@@ -56,7 +48,7 @@ fn passage_of(tracks: [Track; 256], n: usize, row: Row) -> Passage
     }
 }
 
-// The ways of an accepted sheet's tips, from its records and its roll in `rows`; blanks behind them.
+// The ways of an accepted sheet's tips, from its records and its roll in `rows`, each at its row's place (SHEETS 12.3); blanks behind them.
 pub fn passages_of(sheet: Sheet, rows: &[u8]) -> [Passage; 256]
     requires { ⌜ Handed sheet × InFront (rollOf (handedIn sheet)) (now rows) ⌝ }
     ensures { λ r. ⌜ take (sheet .ntracks) r ≡ passagesOf (handedIn sheet .tracks) (rollOf (handedIn sheet)) ⌝ }
@@ -69,14 +61,16 @@ pub fn passages_of(sheet: Sheet, rows: &[u8]) -> [Passage; 256]
         u: 0,
         v: 0,
     }; MOST];
-    let mut i: usize = 0;
-    while i < n {
-        let stored = row::row_at(rows, i);
+    let mut j: usize = 0;
+    while j < n {
+        let a = tracks[j];
+        let k = place_of(rows, n, a.id);
+        let stored = row::row_at(rows, k);
         let Stored::Found(row) = stored else {
             return passages;
         };
-        passages[i] = passage_of(tracks, n, row);
-        i += 1;
+        passages[k] = way_of(a, row);
+        j += 1;
     }
     passages
 }
