@@ -7,13 +7,11 @@ ghost use lib.Seq.{sets};
 ghost use Rattle.shapefile.specs.Extent.{extent};
 ghost use Rattle.shapefile.specs.Layout.{big, little, header};
 ghost use Rattle.shapefile.specs.Figures.{pointsOf};
-ghost use Rattle.shapefile.specs.Files.{recordsFrom, entriesFrom, mainFile, indexFile};
+ghost use Rattle.shapefile.specs.Files.{recordsFrom, entriesFrom, mainFile, indexFile, typeOf, figure, figures, fileOf};
 ghost use Rattle.shape_records.specs.Shapes.{inDoubles, boundsOf, boundsBytes, BoundsSound, NarrowFigure, NarrowExtent};
-ghost use Rattle.shapefile.specs.Files.{typeOf, figure, figures};
 ghost use Rattle.shape_files.specs.Boxing.{inverted, closed};
 ghost use Rattle.shape_files.specs.Exported.{Exports};
 ghost use Rattle.sheet.specs.Returned.{accepted};
-ghost use Rattle.shapefile.specs.Files.{fileOf};
 ghost use Rattle.byte_order.specs.Bytes.{leBytes};
 use byte_order::Order;
 use shape_records::Bounds;
@@ -33,9 +31,9 @@ pub const HEADER: usize = 100;
 
 const UNUSED: usize = INTEGER;
 
-const UNUSED_BYTES: usize = LENGTH - UNUSED;
-
 const LENGTH: usize = 24;
+
+const UNUSED_BYTES: usize = LENGTH - UNUSED;
 
 const VERSION: usize = 28;
 

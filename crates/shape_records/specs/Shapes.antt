@@ -1,4 +1,4 @@
--- Shapes and boxes as the code has them, of doubles.
+-- Shapes and boxes as the code has them, of doubles. Nobody need believe this file: `content-is` and `widen-is` in proofs/ tie it to the layout in 64ths.
 use mathlib.Core.Bool.{Bool, not, _&&_, cond}
 use mathlib.Core.List.{List}
 use Prim.Native.Nat.{ℕ, _<_, _^_}

@@ -8,7 +8,7 @@ use native.Mathlib.Omega.{arith}
 use borrow.Author.Tests.{ltb-true, ltb-false}
 use lib.Dec.{ltb}
 use Rattle.shapefile.specs.Extent.{Point, Extent, wider, widest, extent}
-use Rattle.shapefile.specs.Reading.{_∈_, Inside, Reached, Bounds, none, some}
+use Rattle.shapefile.specs.Reading.{_∈_, Inside, Reached, LeastBox, none, some}
 
 -- widening loses nothing
 kept : (e : Extent) (l : List Point) (p : Point) → Inside e p → Inside (widest e l) p
@@ -82,7 +82,7 @@ reached q l =
       high = on (λ e. e .high) (λ p. p .y) (λ e p. greatest (e .high) (p .y)) q l refl;
     }
 
-pub bounded : (l : List Point) → Bounds l (extent l)
+pub bounded : (l : List Point) → LeastBox l (extent l)
 unfolding extent
 bounded [] = none
 bounded (q ∷ l) = some (inside (q ∷ l)) (reached q l)

@@ -21,7 +21,7 @@ use Rattle.shapefile.specs.Extent.{Point, Extent, extent}
 use Rattle.shapefile.specs.Layout.{words, header, nullContent, pointBytes, pointContent, lineContent, recordBytes}
 use Rattle.shapefile.specs.Figures.{Figure, end, trace, nowhere, points, pointsOf, extentBytes, content}
 use Rattle.shapefile.specs.Files.{recordsFrom, mainFile, entriesFrom, indexFile, typeOf, figure, figures, fileOf}
-use Rattle.shapefile.specs.Reading.{_∈_, HeaderAt, ShapeAt, point, null, line, RecordAt, Records, ends, next, Layered, Narrow, NarrowPassage}
+use Rattle.shapefile.specs.Reading.{_∈_, HeaderAt, ShapeAt, point, null, line, RecordAt, Records, ends, next, Layered, NarrowPoints, NarrowPassage}
 use Rattle.shapefile.proofs.Lengths.{box-length, point-length, null-content-length, point-content-length, line-content-length, header-length, record-length}
 use Rattle.shapefile.proofs.ReadingFields.{Stands, all-stands, first, then, then-le, then-be, le-at, be-at, bytes-at, point-at, box-at}
 
@@ -40,7 +40,7 @@ unfolding leBytes
 more-zeros = refl
 
 header-at :
-    {s : List ℕ} (type len : ℕ) (l : List Point) → type < 2 ^ 32 → len < 2 ^ 32 → Narrow l
+    {s : List ℕ} (type len : ℕ) (l : List Point) → type < 2 ^ 32 → len < 2 ^ 32 → NarrowPoints l
     → 2 * len ≡ length s → Stands s 0 (header type len (extentBytes (extent l))) → HeaderAt type l s
 unfolding header
 header-at {s} type len l ht hl n e h =
@@ -92,7 +92,7 @@ module _ {s : List ℕ} {at : ℕ} where
   null-at x y u v e h = null (e .0) (e .1) (le-at 4 0 (omega arith) h)
 
   line-at :
-      (x y u v : ℕ) → ((x ≡ u) × (y ≡ v) → ⊥) → Narrow (record { x = x; y = y } ∷ record { x = u; y = v } ∷ [])
+      (x y u v : ℕ) → ((x ≡ u) × (y ≡ v) → ⊥) → NarrowPoints (record { x = x; y = y } ∷ record { x = u; y = v } ∷ [])
       → Stands s at (lineContent (extentBytes (extent (record { x = x; y = y } ∷ record { x = u; y = v } ∷ []))) (doubleBits x) (doubleBits y) (doubleBits u) (doubleBits v))
       → ShapeAt s at (trace x y u v) 40
   unfolding lineContent
@@ -127,7 +127,7 @@ record Contents (f : Figure) : Type 0 where
   size : ℕ
   small : size ≤ 40
   twice : length (content f) ≡ 2 * size
-  at-place : {s : List ℕ} {at : ℕ} → Narrow (points f) → Stands s at (content f) → ShapeAt s at f size
+  at-place : {s : List ℕ} {at : ℕ} → NarrowPoints (points f) → Stands s at (content f) → ShapeAt s at f size
 
 contents : (f : Figure) → Contents f
 unfolding content points
@@ -185,7 +185,7 @@ entries-length k (f ∷ l) = let e = entries-length (k + (4 + wordsOf f)) l in s
 
 module _ {main index : List ℕ} where
   record-at :
-      (f : Figure) (k at : ℕ) → Narrow (points f) → at < 2 ^ 32 → k < 256 → Stands main (2 * at) (recordBytes (k + 1) (content f))
+      (f : Figure) (k at : ℕ) → NarrowPoints (points f) → at < 2 ^ 32 → k < 256 → Stands main (2 * at) (recordBytes (k + 1) (content f))
       → Stands index (100 + 8 * k) (beBytes 4 at ++ beBytes 4 (wordsOf f)) → RecordAt main index k at (wordsOf f) f
   unfolding recordBytes
   record-at f k at n ha hk h g =
@@ -203,7 +203,7 @@ module _ {main index : List ℕ} where
       }
 
   records :
-      (l : List Figure) (k at : ℕ) → Narrow (pointsOf l) → k + length l ≤ 256 → at + 44 * length l < 2 ^ 32
+      (l : List Figure) (k at : ℕ) → NarrowPoints (pointsOf l) → k + length l ≤ 256 → at + 44 * length l < 2 ^ 32
       → length main ≡ 2 * at + length (recordsFrom (k + 1) l) → length index ≡ 100 + 8 * (k + length l)
       → Stands main (2 * at) (recordsFrom (k + 1) l) → Stands index (100 + 8 * k) (entriesFrom at l) → Records main index k at l
   unfolding recordsFrom entriesFrom pointsOf
@@ -223,7 +223,7 @@ module _ {main index : List ℕ} where
 
 -- ---- the files
 
-pub layered : (type : ℕ) (l : List Figure) → type < 2 ^ 32 → length l ≤ 256 → Narrow (pointsOf l) → Layered type l (mainFile type l) (indexFile type l)
+pub layered : (type : ℕ) (l : List Figure) → type < 2 ^ 32 → length l ≤ 256 → NarrowPoints (pointsOf l) → Layered type l (mainFile type l) (indexFile type l)
 unfolding mainFile indexFile
 layered type l ht hl n =
     let main = mainFile type l in
@@ -261,33 +261,33 @@ kth r k d h = let e : 0 + k ≡ k = omega arith in rw e at (found (r .records) k
 
 -- ---- the files of some tips' ways
 
-narrow-none : Narrow []
+narrow-none : NarrowPoints []
 narrow-none p m = absurd (List·Memᴰ·not-nil m)
 
-narrow-more : (q : Point) (l : List Point) → (q .x < 2 ^ 32) × (q .y < 2 ^ 32) → Narrow l → Narrow (q ∷ l)
+narrow-more : (q : Point) (l : List Point) → (q .x < 2 ^ 32) × (q .y < 2 ^ 32) → NarrowPoints l → NarrowPoints (q ∷ l)
 narrow-more q l h n p m = go (List·Memᴰ·cases-cons m)
   where
     go : (p ≡ q) ⊎ (p ∈ l) → (p .x < 2 ^ 32) × (p .y < 2 ^ 32)
     go (inl e) = rw e h
     go (inr i) = n p i
 
-narrow-both : (a b : List Point) → Narrow a → Narrow b → Narrow (a ++ b)
+narrow-both : (a b : List Point) → NarrowPoints a → NarrowPoints b → NarrowPoints (a ++ b)
 narrow-both a b n o p m = go (List·Memᴰ·append-cases a m)
   where
     go : (p ∈ a) ⊎ (p ∈ b) → (p .x < 2 ^ 32) × (p .y < 2 ^ 32)
     go (inl i) = n p i
     go (inr i) = o p i
 
-narrow-figure : (layer : Layer) (p : Passage) → NarrowPassage p → Narrow (points (figure layer p))
+narrow-figure : (layer : Layer) (p : Passage) → NarrowPassage p → NarrowPoints (points (figure layer p))
 unfolding points figure
 narrow-figure Ends p n = narrow-more _ [] (n .u, n .v) narrow-none
 narrow-figure Traces p n = go (nowhere (p .x) (p .y) (p .u) (p .v))
   where
-    go : (t : Bool) → Narrow (cond t [] (record { x = p .x; y = p .y } ∷ record { x = p .u; y = p .v } ∷ []))
+    go : (t : Bool) → NarrowPoints (cond t [] (record { x = p .x; y = p .y } ∷ record { x = p .u; y = p .v } ∷ []))
     go true = narrow-none
     go false = narrow-more _ _ (n .x, n .y) (narrow-more _ [] (n .u, n .v) narrow-none)
 
-narrow-figures : (layer : Layer) (l : List Passage) → ((p : Passage) → p ∈ l → NarrowPassage p) → Narrow (pointsOf (figures layer l))
+narrow-figures : (layer : Layer) (l : List Passage) → ((p : Passage) → p ∈ l → NarrowPassage p) → NarrowPoints (pointsOf (figures layer l))
 unfolding pointsOf figures
 narrow-figures layer [] n = narrow-none
 narrow-figures layer (p ∷ l) n =

@@ -19,7 +19,7 @@ use Rattle.doubles.proofs.Pattern.{bits, decodes}
 use Rattle.shapefile.specs.Extent.{Point, Extent, extent}
 use Rattle.shapefile.specs.Layout.{boxBytes, pointBytes}
 use Rattle.shapefile.specs.Figures.{extentBytes}
-use Rattle.shapefile.specs.Reading.{Is64ths, PointAt, BoxAt, Bounds, none, some, Narrow}
+use Rattle.shapefile.specs.Reading.{Is64ths, PointAt, BoxAt, LeastBox, none, some, NarrowPoints}
 use Rattle.shapefile.proofs.Least.{bounded}
 
 -- from place `at` on s holds the bytes t
@@ -92,7 +92,7 @@ record NarrowBox (e : Extent) : Type 0 where
   right : e .right < 2 ^ 32
   high : e .high < 2 ^ 32
 
-narrow-box : {l : List Point} {e : Extent} → Bounds l e → Narrow l → NarrowBox e
+narrow-box : {l : List Point} {e : Extent} → LeastBox l e → NarrowPoints l → NarrowBox e
 narrow-box none n = record { left = omega arith; low = omega arith; right = omega arith; high = omega arith }
 narrow-box (some i r) n =
     record {
@@ -102,7 +102,7 @@ narrow-box (some i r) n =
       high = rw (r .high .2) (n (r .high .0) (r .high .1) .1);
     }
 
-pub box-at : {s : List ℕ} {at : ℕ} (l : List Point) → Narrow l → Stands s at (extentBytes (extent l)) → BoxAt s at l
+pub box-at : {s : List ℕ} {at : ℕ} (l : List Point) → NarrowPoints l → Stands s at (extentBytes (extent l)) → BoxAt s at l
 unfolding extentBytes boxBytes
 box-at {s} {at} l n h =
     let e = extent l in
@@ -118,7 +118,7 @@ box-at {s} {at} l n h =
     let h4 = then-le 8 d3 b4 (at + 24) (omega arith) h3 in
     record {
       box = e;
-      bounds = bounded l;
+      least = bounded l;
       left = double-at (e .left) (m .left) (first (leBytes 8 d1) b2 h);
       low = double-at (e .low) (m .low) (first (leBytes 8 d2) b3 h2);
       right = double-at (e .right) (m .right) (first (leBytes 8 d3) b4 h3);

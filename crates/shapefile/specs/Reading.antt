@@ -44,15 +44,15 @@ pub record Reached (l : List Point) (e : Extent) : Type 0 where
   pub right : Has l (λ p. p .x) (e .right)
   pub high : Has l (λ p. p .y) (e .high)
 
--- least and greatest x and y over the points of l; zeros where it has none (SHEETS 12.6)
-pub data Bounds : List Point → Extent → Type 0 where
-  none : Bounds [] (record { left = 0; low = 0; right = 0; high = 0 })
-  some : {l : List Point} {e : Extent} → ((p : Point) → p ∈ l → Inside e p) → Reached l e → Bounds l e
+-- e is the least and greatest x and y over the points of l; zeros where it has none (SHEETS 12.6)
+pub data LeastBox : List Point → Extent → Type 0 where
+  none : LeastBox [] (record { left = 0; low = 0; right = 0; high = 0 })
+  some : {l : List Point} {e : Extent} → ((p : Point) → p ∈ l → Inside e p) → Reached l e → LeastBox l e
 
 -- the box of l: least x, least y, greatest x, greatest y (SHEETS 12.6)
 pub record BoxAt (s : List ℕ) (at : ℕ) (l : List Point) : Type 0 where
   pub box : Extent
-  pub bounds : Bounds l box
+  pub least : LeastBox l box
   pub left : Is64ths s at (box .left)
   pub low : Is64ths s (at + 8) (box .low)
   pub right : Is64ths s (at + 16) (box .right)
@@ -107,8 +107,8 @@ pub record Layered (type : ℕ) (l : List Figure) (main index : List ℕ) : Type
 
 -- ---- what doubles hold exactly: coordinates of at most 32 bits
 
-abbrev pub Narrow : List Point → Type 0
-Narrow l = (p : Point) → p ∈ l → (p .x < 2 ^ 32) × (p .y < 2 ^ 32)
+abbrev pub NarrowPoints : List Point → Type 0
+NarrowPoints l = (p : Point) → p ∈ l → (p .x < 2 ^ 32) × (p .y < 2 ^ 32)
 
 pub record NarrowPassage (p : Passage) : Type 0 where
   pub x : p .x < 2 ^ 32
