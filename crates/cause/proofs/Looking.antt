@@ -20,7 +20,7 @@ use Rattle.contact.specs.declared.Touch.{Touch}
 use Rattle.contact.specs.declared.Touch.the-variants.{Nowhere, Hit}
 use Rattle.rule.specs.declared.Row.{Row}
 use Rattle.rule.specs.Causes as rule
-use Rattle.rule.specs.Causes.{Cand, by-tip, by-side, by-rim, Below, _≼_, upTo}
+use Rattle.rule.specs.Causes.{Cand, by-tip, by-bar, by-rim, Below, _≼_, upTo}
 use Rattle.rule.specs.Contact.{when, never, hit, contact}
 use Rattle.rule.specs.EdgeTime.{rim}
 use Rattle.rule.specs.WallTime.{wallTime}
@@ -85,7 +85,7 @@ pub record FirstOfSomeWalls (S : Listing) (a : Track) (K : ℕ → Type 0) (c r 
   pub stands : Stands S a r
   pub first : candOf S r ≼ candOf S c
   pub no-track : 0 < c .class → 0 < r .class
-  pub at-walls : (j : ℕ) → j < length (S .walls) → K j → (u : Time) → wallTime a (wallAt S j) ≡ when u → Below (candOf S r) u (by-side (wallAt S j))
+  pub at-walls : (j : ℕ) → j < length (S .walls) → K j → (u : Time) → wallTime a (wallAt S j) ≡ when u → Below (candOf S r) u (by-bar (wallAt S j))
 
 module _ {S : Listing} {a : Track} {K : ℕ → Type 0} where
   pub walls-then : {K′ : ℕ → Type 0} {c d r : Cause} → FirstOfSomeWalls S a K c d → FirstOfSomeWalls S a K′ d r → FirstOfSomeWalls S a (λ (j : ℕ). K j ⊎ K′ j) c r
@@ -97,8 +97,8 @@ module _ {S : Listing} {a : Track} {K : ℕ → Type 0} where
         at-walls = go;
       }
     where
-      go : (j : ℕ) → j < length (S .walls) → K j ⊎ K′ j → (u : Time) → wallTime a (wallAt S j) ≡ when u → Below (candOf S r) u (by-side (wallAt S j))
-      go j l (inl k) u e = cand-trans (candOf S r) (candOf S d) (record { u = u; why = by-side (wallAt S j) }) (q .first) (p .at-walls j l k u e)
+      go : (j : ℕ) → j < length (S .walls) → K j ⊎ K′ j → (u : Time) → wallTime a (wallAt S j) ≡ when u → Below (candOf S r) u (by-bar (wallAt S j))
+      go j l (inl k) u e = cand-trans (candOf S r) (candOf S d) (record { u = u; why = by-bar (wallAt S j) }) (q .first) (p .at-walls j l k u e)
       go j l (inr k) u e = q .at-walls j l k u e
 
   pub walls-fewer : {K′ : ℕ → Type 0} {c r : Cause} → ((j : ℕ) → K′ j → K j) → FirstOfSomeWalls S a K c r → FirstOfSomeWalls S a K′ c r
@@ -124,14 +124,14 @@ module _ (S : Listing) (acc : Accepted S) (a : Track) (k : ℕ) (in-walls : k < 
   unfolding whyOf
   wall-hit {c} {r} u s e h l =
       let w = wall-stands u h e in
-      let right : Below (candOf S r) (asTime u) (by-side (wallAt S k)) = first-right S a s w l in
+      let right : Below (candOf S r) (asTime u) (by-bar (wallAt S k)) = first-right S a s w l in
       record {
         stands = first-stands S a s w l;
         first = first-left S a s w l;
         no-track = go l;
         at-walls = λ j i m v f.
-            subst (λ (i : ℕ). wallTime a (wallAt S i) ≡ when v → Below (candOf S r) v (by-side (wallAt S i))) (sym m)
-            (λ g. let p : asTime u ≡ v = cc in subst (λ (z : Time). Below (candOf S r) z (by-side (wallAt S k))) p right) f;
+            subst (λ (i : ℕ). wallTime a (wallAt S i) ≡ when v → Below (candOf S r) v (by-bar (wallAt S i))) (sym m)
+            (λ g. let p : asTime u ≡ v = cc in subst (λ (z : Time). Below (candOf S r) z (by-bar (wallAt S k))) p right) f;
       }
     where
       go : Least c (wallCause (wallAt S k) k u) r → 0 < c .class → 0 < r .class
@@ -145,7 +145,7 @@ module _ (S : Listing) (acc : Accepted S) (a : Track) (k : ℕ) (in-walls : k < 
         first = ≼-self (candOf S c);
         no-track = λ h. h;
         at-walls = λ j i m v f.
-            subst (λ (i : ℕ). wallTime a (wallAt S i) ≡ when v → Below (candOf S c) v (by-side (wallAt S i))) (sym m)
+            subst (λ (i : ℕ). wallTime a (wallAt S i) ≡ when v → Below (candOf S c) v (by-bar (wallAt S i))) (sym m)
             (λ g. absurd (let z : _≡_ {A = ℕ} 0 1 = cc in omega arith)) f;
       }
 

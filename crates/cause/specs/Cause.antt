@@ -9,7 +9,7 @@ use Rattle.sheet.specs.declared.Track.{Track}
 use Rattle.sheet.specs.declared.Wall.{Wall}
 use Rattle.sheet.specs.Listing.{Listing}
 use Rattle.sheet.specs.HandedIn.{noTrack, noWall}
-use Rattle.rule.specs.Causes.{Why, by-tip, by-side, by-rim, Cand, cls, who}
+use Rattle.rule.specs.Causes.{Why, by-tip, by-bar, by-rim, Cand, cls, who}
 use Rattle.rule.specs.Meanwhile.{Formal}
 use Rattle.fraction.specs.Sizes.{Timely}
 use Rattle.cause.specs.declared.Cause.{Cause}
@@ -23,7 +23,7 @@ wallAt S i = getD (S .walls) i noWall
 
 unfoldable pub whyOf : Listing → ℕ → ℕ → Time → Why
 whyOf S zero k s = by-tip (tipAt S k) s
-whyOf S (suc zero) k s = by-side (wallAt S k)
+whyOf S (suc zero) k s = by-bar (wallAt S k)
 whyOf S (suc (suc n)) k s = by-rim
 
 abbrev pub candOf : Listing → Cause → Cand

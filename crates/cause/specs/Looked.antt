@@ -9,7 +9,7 @@ use Rattle.sheet.specs.declared.Track.{Track}
 use Rattle.sheet.specs.declared.Wall.{Wall}
 use Rattle.sheet.specs.Listing.{Listing, _∈_}
 use Rattle.rule.specs.declared.Row.{Row}
-use Rattle.rule.specs.Causes.{by-side, Below, _≼_, upTo}
+use Rattle.rule.specs.Causes.{by-bar, Below, _≼_, upTo}
 use Rattle.rule.specs.Contact.{when}
 use Rattle.rule.specs.WallTime.{wallTime}
 use Rattle.rule.specs.Meanwhile.{Beats, Live}
@@ -32,7 +32,7 @@ pub record FirstOfWalls (S : Listing) (a : Track) (p : Region) (c r : Cause) : T
   pub stands : Stands S a r
   pub first : candOf S r ≼ candOf S c
   pub no-track : 0 < c .class → 0 < r .class
-  pub at-walls : (j : ℕ) → j < length (S .walls) → Near p (wallAt S j) → (u : Time) → wallTime a (wallAt S j) ≡ when u → Below (candOf S r) u (by-side (wallAt S j))
+  pub at-walls : (j : ℕ) → j < length (S .walls) → Near p (wallAt S j) → (u : Time) → wallTime a (wallAt S j) ≡ when u → Below (candOf S r) u (by-bar (wallAt S j))
 
 -- ---- tracks
 

@@ -11,7 +11,7 @@ use Rattle.sheet.specs.declared.Track.{Track}
 use Rattle.sheet.specs.declared.Wall.{Wall}
 use Rattle.sheet.specs.Listing.{Listing, _∈_}
 use Rattle.rule.specs.declared.Row.{Row}
-use Rattle.rule.specs.Causes.{by-side, Below, _≼_}
+use Rattle.rule.specs.Causes.{by-bar, Below, _≼_}
 use Rattle.rule.specs.Contact.{when}
 use Rattle.rule.specs.WallTime.{wallTime}
 use Rattle.rule.specs.Meanwhile.{Fresh}
@@ -62,7 +62,7 @@ base-more {S} {side} {l} {a} k {c} {r} f o =
     better : Walls S side l a r
     better = walls-better (f .stands) (f .first) (o .walls)
 
-    go : (j : ℕ) → j < length (S .walls) → (u : Time) → wallTime a (wallAt S j) ≡ when u → Near (regionOf side k) (wallAt S j) ⊎ Tried side l (wallAt S j) → Below (candOf S r) u (by-side (wallAt S j))
+    go : (j : ℕ) → j < length (S .walls) → (u : Time) → wallTime a (wallAt S j) ≡ when u → Near (regionOf side k) (wallAt S j) ⊎ Tried side l (wallAt S j) → Below (candOf S r) u (by-bar (wallAt S j))
     go j m u e (inl x) = f .at-walls j m x u e
     go j m u e (inr x) = better .at-walls j m x u e
 

@@ -17,7 +17,7 @@ use Rattle.sheet.specs.Listing.{Listing, _∈_}
 use Rattle.sheet.proofs.Lists.{mem-at, at-mem}
 use Rattle.rule.specs.declared.Row.{Row}
 use Rattle.rule.specs.Motion.{Inside, OnWall}
-use Rattle.rule.specs.Causes.{Why, by-tip, by-side, by-rim, Cand, Below, rowOf, upTo}
+use Rattle.rule.specs.Causes.{Why, by-tip, by-bar, by-rim, Cand, Below, rowOf, upTo}
 use Rattle.rule.specs.Contact.{when, hit, contact}
 use Rattle.rule.specs.Rows.{time}
 use Rattle.rule.specs.EdgeTime.{rim}
@@ -113,10 +113,10 @@ module _ {S : Listing} (acc : Accepted S) {s : ℕ} (some-side : 0 < s) {done : 
       let (c, i) = placed (tipAt S j) s v some-side (rim-inside acc (on j (m .0)) v (o .opened) (≤ᵗ-trans h (in-sheet j m))) in
       record { cell = c; entered = been-in (pl .at j (run j m) (stay j (m .0))) (behind j (run j m) .1) h i; near = cell-near i o }
 
-  struck : (j : ℕ) (w : Wall) (u : Time) → RunsAt noTrack acc done j → w ∈ S .walls → Tried s (cellsAt es j) w → wallTime (tipAt S j) w ≡ when u → Below (cand j) u (by-side w)
+  struck : (j : ℕ) (w : Wall) (u : Time) → RunsAt noTrack acc done j → w ∈ S .walls → Tried s (cellsAt es j) w → wallTime (tipAt S j) w ≡ when u → Below (cand j) u (by-bar w)
   struck j w u m q x e =
       let (i, h, f) = at-mem noWall (S .walls) w q in
-      subst (λ (z : Wall). Below (cand j) u (by-side z)) f
+      subst (λ (z : Wall). Below (cand j) u (by-bar z)) f
       (lk .best j (run j m) .walls .at-walls i h (subst (λ (z : Wall). Tried s (cellsAt es j) z) (sym f) x) u (subst (λ (z : Wall). wallTime (tipAt S j) z ≡ when u) (sym f) e))
 
   seen : Seen S done (best noTrack acc cand) t
@@ -143,7 +143,7 @@ module _ {S : Listing} (acc : Accepted S) {s : ℕ} (some-side : 0 < s) {done : 
   came u (by-tip b v) (m, d, e) l =
       let (i, h, f) = at-mem noTrack (S .tracks) b m in
       ahead .of-tips i h (subst (λ (z : Track). z .id ≢ tipAt S r .id) (sym f) d) u v (subst (λ (z : Track). contact (tipAt S r) z ≡ hit u v) (sym f) e) (subst (λ (z : Track). v ≤ᵗ upTo done u (z .id)) (sym f) l)
-  came u (by-side w) (m, e) l =
+  came u (by-bar w) (m, e) l =
       let (i, h, f) = at-mem noWall (S .walls) w m in
       ahead .of-walls i h u (subst (λ (z : Wall). wallTime (tipAt S r) z ≡ when u) (sym f) e)
   came u by-rim e l = subst (λ (z : Time). entry (tipAt S r) s (cell r) <ᶜ past z) (sym e) (pl .at r runs (stay r (runs .0)) .good .soon)

@@ -18,7 +18,7 @@ use Rattle.sheet.specs.Listing.{Listing, _∈_}
 use Rattle.sheet.proofs.Lists.{mem-at}
 use Rattle.rule.specs.declared.Row.{Row}
 use Rattle.rule.specs.Motion.{opening}
-use Rattle.rule.specs.Causes.{by-tip, by-side, upTo}
+use Rattle.rule.specs.Causes.{by-tip, by-bar, upTo}
 use Rattle.rule.specs.Contact.{when, hit, contact}
 use Rattle.rule.specs.EdgeTime.{rim}
 use Rattle.rule.specs.WallTime.{wallTime}
@@ -55,7 +55,7 @@ first-ahead {S} acc done {a} on s p =
     let h : (u : Time) → opening a ≤ᵗ u → entry a s (first a s) <ᶜ past u = λ u o. past-before (after-mono o (cell-entry (first-in a s p))) in
     record {
       of-tips = λ m i d u v e l. h u (formal-opened acc on (by-tip (tipAt S m) v) (mem-at noTrack (S .tracks) m i, d, e));
-      of-walls = λ w i u e. h u (formal-opened acc on (by-side (wallAt S w)) (mem-at noWall (S .walls) w i, e));
+      of-walls = λ w i u e. h u (formal-opened acc on (by-bar (wallAt S w)) (mem-at noWall (S .walls) w i, e));
     }
 
 -- a cell that is entered on the sheet is in the grid

@@ -11,7 +11,7 @@ use Rattle.sheet.specs.HandedIn.{noTrack}
 use Rattle.sheet.specs.Listing.{Listing}
 use Rattle.sheet.proofs.Lists.{mem-at}
 use Rattle.rule.specs.declared.Row.{Row}
-use Rattle.rule.specs.Causes.{by-side, by-rim, _≼_}
+use Rattle.rule.specs.Causes.{by-bar, by-rim, _≼_}
 use Rattle.rule.specs.EdgeTime.{rim}
 use Rattle.rule.proofs.Existence.{cand-trans}
 use Rattle.rule.specs.Meanwhile.{Beats, Fresh}
@@ -37,7 +37,7 @@ walls-better {S} {side} {l} {a} {c} {d} t h w =
     record {
       stands = t;
       at-rim = cand-trans (candOf S d) (candOf S c) (record { u = rim a; why = by-rim }) h (w .at-rim);
-      at-walls = λ j i x u e. cand-trans (candOf S d) (candOf S c) (record { u = u; why = by-side (wallAt S j) }) h (w .at-walls j i x u e);
+      at-walls = λ j i x u e. cand-trans (candOf S d) (candOf S c) (record { u = u; why = by-bar (wallAt S j) }) h (w .at-walls j i x u e);
     }
 
 pub best-better : {S : Listing} {done : List Row} {side : ℕ} {l : List Cell} {marks : List (List ℕ)} {j : ℕ} {c d : Cause} → Stands S (tipAt S j) d → candOf S d ≼ candOf S c

@@ -11,7 +11,7 @@ use Rattle.sheet.specs.declared.Track.{Track}
 use Rattle.sheet.specs.declared.Wall.{Wall}
 use Rattle.sheet.specs.Listing.{Listing, _∈_}
 use Rattle.rule.specs.declared.Row.{Row}
-use Rattle.rule.specs.Causes.{by-side, by-rim, Below, upTo}
+use Rattle.rule.specs.Causes.{by-bar, by-rim, Below, upTo}
 use Rattle.rule.specs.Contact.{when, hit, contact}
 use Rattle.rule.specs.EdgeTime.{rim}
 use Rattle.rule.specs.WallTime.{wallTime}
@@ -58,7 +58,7 @@ pub record Tried (side : ℕ) (l : List Cell) (w : Wall) : Type 0 where
 pub record Walls (S : Listing) (side : ℕ) (l : List Cell) (a : Track) (c : Cause) : Type 0 where
   pub stands : Stands S a c
   pub at-rim : Below (candOf S c) (rim a) by-rim
-  pub at-walls : (w : ℕ) → w < length (S .walls) → Tried side l (wallAt S w) → (u : Time) → wallTime a (wallAt S w) ≡ when u → Below (candOf S c) u (by-side (wallAt S w))
+  pub at-walls : (w : ℕ) → w < length (S .walls) → Tried side l (wallAt S w) → (u : Time) → wallTime a (wallAt S w) ≡ when u → Below (candOf S c) u (by-bar (wallAt S w))
 
 pub record Best (S : Listing) (done : List Row) (side : ℕ) (l : List Cell) (marks : List (List ℕ)) (j : ℕ) (c : Cause) : Type 0 where
   pub walls : Walls S side l (tipAt S j) c

@@ -12,7 +12,7 @@ use Rattle.sheet.specs.HandedIn.{noWall}
 use Rattle.sheet.specs.Listing.{Listing}
 use Rattle.sheet.proofs.Lists.{mem-at}
 use Rattle.rule.specs.declared.Row.{Row}
-use Rattle.rule.specs.Causes.{by-side, by-rim, _≼_}
+use Rattle.rule.specs.Causes.{by-bar, by-rim, _≼_}
 use Rattle.rule.specs.EdgeTime.{rim}
 use Rattle.rule.proofs.Existence.{cand-trans}
 use Rattle.rule.specs.Meanwhile.{Live}
@@ -36,7 +36,7 @@ foremost-better {S} {a} {c} {r} t h f =
     record {
       stands = t;
       at-rim = cand-trans (candOf S r) (candOf S c) (record { u = rim a; why = by-rim }) h (f .at-rim);
-      at-walls = λ j l u e. cand-trans (candOf S r) (candOf S c) (record { u = u; why = by-side (wallAt S j) }) h (f .at-walls j l u e);
+      at-walls = λ j l u e. cand-trans (candOf S r) (candOf S c) (record { u = u; why = by-bar (wallAt S j) }) h (f .at-walls j l u e);
     }
 
 pub base-found : {S : Listing} → Accepted S → {a : Track} {c r : Cause} → AtEdge a c → FirstOfWalls S a (record { left = 0; right = 4096; low = 0; high = 4096 }) c r → Based S a r

@@ -15,7 +15,7 @@ use Rattle.sheet.specs.declared.Wall.{Wall}
 use Rattle.sheet.proofs.Lists.{mem-at, at-mem}
 use Rattle.rule.specs.declared.Row.{Row}
 use Rattle.rule.specs.declared.Ending.{Ending}
-use Rattle.rule.specs.Causes.{by-side, Cand, Below, rowOf}
+use Rattle.rule.specs.Causes.{by-bar, Cand, Below, rowOf}
 use Rattle.rule.specs.Contact.{when}
 use Rattle.rule.specs.RowBytes.{rowBytes, rowWidth}
 use Rattle.rule.specs.Selection.{rollOf}
@@ -85,7 +85,7 @@ module _ {S : Listing} (acc : Accepted S) {ts new : List Tip} {k i : ℕ} (st : 
         at-tips = λ j m r g x. kept .seen j (r .0) (runs-on (kept .ends) j (r .0) (r .1)) .at-tips m g x;
         at-walls = λ j w u r g x.
             let (m, h, e) = at-mem noWall (S .walls) w g in
-            subst (λ (z : Wall). Below (cand j) u (by-side z)) e
+            subst (λ (z : Wall). Below (cand j) u (by-bar z)) e
             (kept .seen j (r .0) (runs-on (kept .ends) j (r .0) (r .1)) .foremost .at-walls m h u (subst (λ (z : Wall). wallTime (tipAt S j) z ≡ when u) (sym e) x));
         at-rim = λ j r. kept .seen j (r .0) (runs-on (kept .ends) j (r .0) (r .1)) .foremost .at-rim;
       }

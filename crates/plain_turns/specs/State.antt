@@ -8,7 +8,7 @@ use Rattle.fraction.specs.Time.{Time}
 use Rattle.sheet.specs.declared.Track.{Track}
 use Rattle.sheet.specs.Listing.{Listing}
 use Rattle.rule.specs.declared.Row.{Row}
-use Rattle.rule.specs.Causes.{by-side, by-rim, Below}
+use Rattle.rule.specs.Causes.{by-bar, by-rim, Below}
 use Rattle.rule.specs.Contact.{when}
 use Rattle.rule.specs.EdgeTime.{rim}
 use Rattle.rule.specs.Selection.{rollOf}
@@ -31,7 +31,7 @@ pub record AllKnown (known : List ℕ) : Type 0 where
 pub record Foremost (S : Listing) (a : Track) (c : Cause) : Type 0 where
   pub stands : Stands S a c
   pub at-rim : Below (candOf S c) (rim a) by-rim
-  pub at-walls : (j : ℕ) → j < length (S .walls) → (u : Time) → wallTime a (wallAt S j) ≡ when u → Below (candOf S c) u (by-side (wallAt S j))
+  pub at-walls : (j : ℕ) → j < length (S .walls) → (u : Time) → wallTime a (wallAt S j) ≡ when u → Below (candOf S c) u (by-bar (wallAt S j))
 
 -- and is one of them
 pub record Based (S : Listing) (a : Track) (c : Cause) : Type 0 where

@@ -14,7 +14,7 @@ use Rattle.rule.specs.Rows.{time, RuleRow}
 use Rattle.rule.specs.Contact.{when, hit, contact}
 use Rattle.rule.specs.WallTime.{wallTime}
 use Rattle.rule.specs.EdgeTime.{rim}
-use Rattle.rule.specs.Causes.{Why, by-tip, by-side, by-rim, Cand, Below, upTo}
+use Rattle.rule.specs.Causes.{Why, by-tip, by-bar, by-rim, Cand, Below, upTo}
 use Rattle.rule.specs.Selection.{left}
 
 -- ---- the tips
@@ -60,13 +60,13 @@ pub data Run (S : Listing) : List Row → List Row → Type 0 where
 -- u and y are a contact, a wall or the edge of a, whether or not it still counts
 abbrev pub Formal : Listing → Track → Time → Why → Type 0
 Formal S a u (by-tip b s) = (b ∈ S .tracks) × (b .id ≢ a .id) × (contact a b ≡ hit u s)
-Formal S a u (by-side w) = (w ∈ S .walls) × (wallTime a w ≡ when u)
+Formal S a u (by-bar w) = (w ∈ S .walls) × (wallTime a w ≡ when u)
 Formal S a u by-rim = u ≡ rim a
 
 -- it still counts: the partner had not ended before
 abbrev pub Live : List Row → Time → Why → Type 0
 Live done u (by-tip b s) = s ≤ᵗ upTo done u (b .id)
-Live done u (by-side w) = Unit {0}
+Live done u (by-bar w) = Unit {0}
 Live done u by-rim = Unit {0}
 
 -- c is not after the contact of a with b, unless b had ended before
