@@ -40,19 +40,29 @@ get-requires-3 c κs = search needs
 cast-y : tie.Need-cast-y
 cast-y c = search needs
 
+add-get-4 : tie.Need-add-get-4
+add-get-4 c = search needs
+
+get-requires-4 : tie.Need-get-requires-4
+get-requires-4 c κs = search needs
+
+side-from-requires : tie.Need-side-from-requires
+side-from-requires c κs = search needs
+
 ending-from-requires : tie.Need-ending-from-requires
 ending-from-requires c κs = search needs
 
 returns : tie.Need-returns
 unfolding rowFrom
 returns c =
-    let c1 = c .before .before .before .before .before .before in
-    let c2 = c .before .before .before .before .before in
-    let c3 = c .before .before .before .before in
-    let c4 = c .before .before .before in
-    let c5 = c .before .before in
-    let c6 = c .before in
-    rw (c .ending-from .ensures, c1 .id-from .ensures, c2 .get .ensures .0, c3 .get16 .ensures, c4 .time-from .ensures, c5 .get2 .ensures .0, c6 .get3 .ensures .0)
+    let c7 = c .before .before in
+    let c6 = c7 .before in
+    let c5 = c6 .before in
+    let c4 = c5 .before in
+    let c3 = c4 .before in
+    let c2 = c3 .before in
+    let c1 = c2 .before in
+    rw (c .ending-from .ensures, c .before .side-from .ensures, c1 .id-from .ensures, c2 .get .ensures .0, c3 .get16 .ensures, c4 .time-from .ensures, c5 .get2 .ensures .0, c6 .get3 .ensures .0, c7 .get4 .ensures .0)
 
 pub row-from-spec : {M : Type 1} → statement M
 row-from-spec =
@@ -70,5 +80,8 @@ row-from-spec =
     add-get-3
     get-requires-3
     cast-y
+    add-get-4
+    get-requires-4
+    side-from-requires
     ending-from-requires
     returns)
