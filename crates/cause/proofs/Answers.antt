@@ -8,11 +8,15 @@ use Rattle.fraction.specs.Time.{Time, _≤ᵗ_, _<ᵗ_, asTime}
 use Rattle.sheet.specs.declared.Track.{Track}
 use Rattle.sheet.specs.declared.Wall.{Wall}
 use Rattle.fraction.specs.Sizes.{Timely}
-use Rattle.contact.specs.Answers.{quotOf, touchOf, MomentTimely, TouchTimely}
+use Rattle.contact.specs.Answers.{quotOf, touchOf, strikeOf, MomentTimely, TouchTimely, StrikeTimely, HitFrom, StruckFrom}
 use Rattle.contact.specs.declared.Moment.{Moment}
 use Rattle.contact.specs.declared.Moment.the-variants.{Never, At}
 use Rattle.contact.specs.declared.Touch.{Touch}
 use Rattle.contact.specs.declared.Touch.the-variants.{Nowhere, Hit}
+use Rattle.contact.specs.declared.Strike.{Strike}
+use Rattle.contact.specs.declared.Strike.the-variants.{Missed, Struck}
+use Rattle.rule.specs.declared.Side.{Side}
+use Rattle.rule.specs.Side.{trackSide, wallSide}
 use Rattle.rule.specs.Contact.{Quot, never, when, Contact, nowhere, hit, contact}
 use Rattle.rule.specs.EdgeTime.{rim}
 use Rattle.rule.specs.WallTime.{wallTime}
@@ -33,12 +37,25 @@ module _ {m : Moment} {t : Fraction} (e : m ≡ At t) where
 pub never-quot : {m : Moment} {q : Quot} → m ≡ Never → quotOf m ≡ q → q ≡ never
 never-quot e h = sym h ∙ ap quotOf e
 
-module _ {t : Touch} {u s : Fraction} (e : t ≡ Hit u s) where
+module _ {t : Touch} {u s : Fraction} {d : Side} (e : t ≡ Hit u s d) where
   pub hit-contact : {q : Contact} → touchOf t ≡ q → q ≡ hit (asTime u) (asTime s)
   hit-contact h = sym h ∙ ap touchOf e
 
   pub hit-timely : TouchTimely t → Timely u × Timely s
   hit-timely h = subst TouchTimely e h
+
+  hit-side : {f : Side} → HitFrom f t → d ≡ f
+  hit-side {f} h = subst (HitFrom f) e h
+
+module _ {m : Strike} {u : Fraction} {d : Side} (e : m ≡ Struck u d) where
+  pub struck-timely : StrikeTimely m → Timely u
+  struck-timely h = subst StrikeTimely e h
+
+  struck-side : {f : Side} → StruckFrom f m → d ≡ f
+  struck-side {f} h = subst (StruckFrom f) e h
+
+pub missed-wall : {m : Strike} {q : Quot} → m ≡ Missed → strikeOf m ≡ q → q ≡ never
+missed-wall e h = sym h ∙ ap strikeOf e
 
 pub nowhere-contact : {t : Touch} {q : Contact} → t ≡ Nowhere → touchOf t ≡ q → q ≡ nowhere
 nowhere-contact e h = sym h ∙ ap touchOf e
@@ -52,14 +69,14 @@ edge-at a {m} {u} e s h =
     let f : when (rim a) ≡ when (asTime u) = at-quot e h in
     record { u = u; timely = at-timely e s; is = refl; last = cc }
 
-pub wall-at : {a : Track} {w : Wall} {k : ℕ} {c r : Cause} {m : Moment} {u : Fraction} → m ≡ At u → (quotOf m ≡ wallTime a w) × MomentTimely m → Least c (wallCause w k u) r → WallOffered a w k c r
-wall-at {u = u} e h l = struck u (at-quot e (h .0)) (at-timely e (h .1)) l
+pub wall-at : {a : Track} {w : Wall} {k : ℕ} {c r : Cause} {m : Strike} {u : Fraction} {d : Side} → m ≡ Struck u d → (strikeOf m ≡ wallTime a w) × StrikeTimely m × StruckFrom (wallSide a w) m → Least c (wallCause w k u d) r → WallOffered a w k c r
+wall-at {w = w} {k = k} {c = c} {r = r} {u = u} e h l = struck u (sym (h .0) ∙ ap strikeOf e) (struck-timely e (h .1)) (subst (λ (z : Side). Least c (wallCause w k u z) r) (struck-side e (h .2)) l)
 
 module _ {a b : Track} {ended : ℕ} {end : Fraction} {t : Touch} where
-  pub reached-hit : {u s : Fraction} → t ≡ Hit u s → (touchOf t ≡ contact a b) × TouchTimely t → (b .id ≡ a .id → ⊥) → (ended ≡ 0) ⊎ ((ended ≡ 0 → ⊥) × (asTime s ≤ᵗ asTime end)) → Reached a b ended end (Hit u s)
-  reached-hit {u} {s} e h n q = let (p, g) = hit-timely e (h .1) in met u s n (hit-contact e (h .0)) q p g refl
+  pub reached-hit : {u s : Fraction} {d : Side} → t ≡ Hit u s d → (touchOf t ≡ contact a b) × TouchTimely t × HitFrom (trackSide a b) t → (b .id ≡ a .id → ⊥) → (ended ≡ 0) ⊎ ((ended ≡ 0 → ⊥) × (asTime s ≤ᵗ asTime end)) → Reached a b ended end (Hit u s d)
+  reached-hit {u} {s} e h n q = let (p, g) = hit-timely e (h .1) in met u s n (hit-contact e (h .0)) q p g (ap (Hit u s) (hit-side e (h .2)))
 
-  pub reached-void : {u s : Fraction} → t ≡ Hit u s → touchOf t ≡ contact a b → (ended ≡ 0 → ⊥) → asTime end <ᵗ asTime s → Reached a b ended end Nowhere
+  pub reached-void : {u s : Fraction} {d : Side} → t ≡ Hit u s d → touchOf t ≡ contact a b → (ended ≡ 0 → ⊥) → asTime end <ᵗ asTime s → Reached a b ended end Nowhere
   reached-void {u} {s} e h n l = void (asTime u) (asTime s) (hit-contact e h) n l refl
 
   pub reached-timely : Reached a b ended end t → TouchTimely t

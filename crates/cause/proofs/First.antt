@@ -12,6 +12,7 @@ use Rattle.sheet.specs.declared.Track.{Track}
 use Rattle.fraction.specs.Sizes.{Timely}
 use Rattle.contact.specs.declared.Touch.{Touch}
 use Rattle.contact.specs.declared.Touch.the-variants.{Hit}
+use Rattle.rule.specs.declared.Side.{Side}
 use Rattle.rule.specs.Causes as rule
 use Rattle.rule.specs.Causes.{Cand, _≼_}
 use Rattle.cause.specs.declared.Cause.{Cause}
@@ -69,9 +70,9 @@ module _ (S : Listing) (t : Track) {a b r : Cause} (p : Stands S t a) (q : Stand
   first-of h = (first-stands h, first-left h, first-right h)
 
 -- a track that the tip comes to: by the answer of the test, c or the track
-module _ (b : Track) (k : ℕ) {c : Cause} {t : Touch} {u s : Fraction} (hits : t ≡ Hit u s) {r : Bool} (told : Tells c (tipCause b k u s) r) where
+module _ (b : Track) (k : ℕ) {c : Cause} {t : Touch} {u s : Fraction} {d : Side} (hits : t ≡ Hit u s d) {r : Bool} (told : Tells c (tipCause b k u s d) r) where
   pub taken-first : r ≡ true → Taken b k t c c
   taken-first e = subst (λ (z : Touch). Taken b k z c c) (sym hits) (least-first told e)
 
-  pub taken-second : r ≡ false → Taken b k t c (tipCause b k u s)
-  taken-second e = subst (λ (z : Touch). Taken b k z c (tipCause b k u s)) (sym hits) (least-second told e)
+  pub taken-second : r ≡ false → Taken b k t c (tipCause b k u s d)
+  taken-second e = subst (λ (z : Touch). Taken b k z c (tipCause b k u s d)) (sym hits) (least-second told e)

@@ -9,7 +9,7 @@ use Rattle.sheet.specs.declared.Track.{Track}
 use Rattle.sheet.specs.declared.Wall.{Wall}
 use Rattle.sheet.specs.Listing.{Listing}
 use Rattle.sheet.specs.HandedIn.{noTrack, noWall}
-use Rattle.rule.specs.Causes.{Why, by-tip, by-bar, by-rim, Cand, cls, who}
+use Rattle.rule.specs.Causes.{Why, by-tip, by-bar, by-rim, Cand, cls, who, sideTo}
 use Rattle.rule.specs.Meanwhile.{Formal}
 use Rattle.fraction.specs.Sizes.{Timely}
 use Rattle.cause.specs.declared.Cause.{Cause}
@@ -34,7 +34,7 @@ pub record Fine (c : Cause) : Type 0 where
   pub at : Timely (c .at)
   pub there : Timely (c .there)
 
--- c is a contact, a wall or the edge of tip a, with its class and its partner's id
+-- c is a contact, a wall or the edge of tip a, with its class, its partner's id and its side
 pub record Stands (S : Listing) (a : Track) (c : Cause) : Type 0 where
   pub fine : Fine c
   pub formal : Formal S a (candOf S c .u) (candOf S c .why)
@@ -42,6 +42,7 @@ pub record Stands (S : Listing) (a : Track) (c : Cause) : Type 0 where
   pub named : who (candOf S c .why) ≡ c .id
   pub known : c .class ≡ 0 → c .who < length (S .tracks)
   pub id-in : c .id ≤ 65535
+  pub sided : c .side ≡ sideTo a (candOf S c .why)
 
 -- by time, then tracks, walls and the edge in this order, then by id (SHEETS 4.6, 4.9)
 pub data Comes (a b : Cause) : Type 0 where

@@ -9,6 +9,9 @@ use Rattle.sheet.specs.declared.Wall.{Wall}
 use Rattle.rule.specs.Contact.{never, when, nowhere, hit, contact}
 use Rattle.rule.specs.WallTime.{wallTime}
 use Rattle.rule.specs.EdgeTime.{rim}
+use Rattle.rule.specs.declared.Side.{Side}
+use Rattle.rule.specs.declared.Side.the-variants.{NoSide}
+use Rattle.rule.specs.Side.{trackSide, wallSide}
 use Rattle.fraction.specs.Sizes.{Timely}
 use Rattle.contact.specs.declared.Touch.{Touch}
 use Rattle.contact.specs.declared.Touch.the-variants.{Nowhere, Hit}
@@ -20,7 +23,7 @@ abbrev pub unused : Fraction
 unused = record { num = 0; den = 1 }
 
 abbrev pub edgeCause : Fraction → Cause
-edgeCause u = record { at = u; class = 2; id = 0; who = 0; there = unused }
+edgeCause u = record { at = u; class = 2; id = 0; who = 0; there = unused; side = NoSide }
 
 -- the edge
 pub record AtEdge (a : Track) (r : Cause) : Type 0 where
@@ -29,28 +32,28 @@ pub record AtEdge (a : Track) (r : Cause) : Type 0 where
   pub is : r ≡ edgeCause u
   pub last : asTime u ≡ rim a
 
-abbrev pub wallCause : Wall → ℕ → Fraction → Cause
-wallCause w k u = record { at = u; class = 1; id = w .id; who = k; there = unused }
+abbrev pub wallCause : Wall → ℕ → Fraction → Side → Cause
+wallCause w k u d = record { at = u; class = 1; id = w .id; who = k; there = unused; side = d }
 
 -- r is the first of c and the wall w
 pub data WallOffered (a : Track) (w : Wall) (k : ℕ) (c r : Cause) : Type 0 where
   passed : wallTime a w ≡ never → r ≡ c → WallOffered a w k c r
-  struck : (u : Fraction) → wallTime a w ≡ when (asTime u) → Timely u → Least c (wallCause w k u) r → WallOffered a w k c r
+  struck : (u : Fraction) → wallTime a w ≡ when (asTime u) → Timely u → Least c (wallCause w k u (wallSide a w)) r → WallOffered a w k c r
 
-abbrev pub tipCause : Track → ℕ → Fraction → Fraction → Cause
-tipCause b k u s = record { at = u; class = 0; id = b .id; who = k; there = s }
+abbrev pub tipCause : Track → ℕ → Fraction → Fraction → Side → Cause
+tipCause b k u s d = record { at = u; class = 0; id = b .id; who = k; there = s; side = d }
 
 -- t is where tip a comes to the trace of b: nowhere if tip b, which has ended at `end` unless `ended` is 0, ended before it would have been there (SHEETS 4.5)
 pub data Reached (a b : Track) (ended : ℕ) (end : Fraction) (t : Touch) : Type 0 where
   itself : b .id ≡ a .id → t ≡ Nowhere → Reached a b ended end t
   missed : contact a b ≡ nowhere → t ≡ Nowhere → Reached a b ended end t
   void : (u s : Time) → contact a b ≡ hit u s → (ended ≡ 0 → ⊥) → asTime end <ᵗ s → t ≡ Nowhere → Reached a b ended end t
-  met : (u s : Fraction) → (b .id ≡ a .id → ⊥) → contact a b ≡ hit (asTime u) (asTime s) → (ended ≡ 0) ⊎ ((ended ≡ 0 → ⊥) × (asTime s ≤ᵗ asTime end)) → Timely u → Timely s → t ≡ Hit u s → Reached a b ended end t
+  met : (u s : Fraction) → (b .id ≡ a .id → ⊥) → contact a b ≡ hit (asTime u) (asTime s) → (ended ≡ 0) ⊎ ((ended ≡ 0 → ⊥) × (asTime s ≤ᵗ asTime end)) → Timely u → Timely s → t ≡ Hit u s (trackSide a b) → Reached a b ended end t
 
 -- r is the first of c and the track b, which the tip comes to by t
 abbrev pub Taken : Track → ℕ → Touch → Cause → Cause → Type 0
 Taken b k Nowhere c r = r ≡ c
-Taken b k (Hit u s) c r = Least c (tipCause b k u s) r
+Taken b k (Hit u s d) c r = Least c (tipCause b k u s d) r
 
 -- r is the first of c and the track b
 pub record TipOffered (a b : Track) (k ended : ℕ) (end : Fraction) (c r : Cause) : Type 0 where

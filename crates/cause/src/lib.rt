@@ -9,19 +9,22 @@ ghost use Rattle.cause.specs.Cause.{Fine, Tells, Least};
 ghost use Rattle.cause.specs.Offer.{AtEdge, WallOffered, Reached, Taken};
 ghost use Rattle.cause.specs.Looked.{Reaches};
 use contact::Moment;
+use contact::Strike;
 use contact::Touch;
 use fraction::Fraction;
+use rule::Side;
 use sheet::Track;
 use sheet::Wall;
 
 // What ends a tip, and when. The class is 0 for a track, 1 for a wall, 2 for the edge; id is the partner's, 0 for the edge,
-// who its index among the sheet's tracks or walls; `there` is when a track was there.
+// who its index among the sheet's tracks or walls; `there` is when a track was there; the side is that from which the tip comes to it.
 pub struct Cause {
     pub at: Fraction,
     pub class: u64,
     pub id: u64,
     pub who: u64,
     pub there: Fraction,
+    pub side: Side,
 }
 
 // Does a come before b: by time, then tracks, walls and the edge in this order, then by id (SHEETS 4.6, 4.9)?
@@ -73,6 +76,7 @@ pub fn edge_cause(a: Track) -> Cause
             id: 0,
             who: 0,
             there,
+            side: Side::NoSide,
         },
         Moment::At(at) => Cause {
             at,
@@ -80,6 +84,7 @@ pub fn edge_cause(a: Track) -> Cause
             id: 0,
             who: 0,
             there,
+            side: Side::NoSide,
         },
     }
 }
@@ -90,8 +95,8 @@ pub fn with_wall(c: Cause, a: Track, w: Wall, k: usize) -> Cause
     ensures { λ r. ⌜ WallOffered a w k c r ⌝ }
 {
     match contact::wall_of(a, w) {
-        Moment::Never => c,
-        Moment::At(at) => {
+        Strike::Missed => c,
+        Strike::Struck { at, side } => {
             let id = w.id as u64;
             let who = k as u64;
             let there = Fraction { num: 0, den: 1 };
@@ -101,6 +106,7 @@ pub fn with_wall(c: Cause, a: Track, w: Wall, k: usize) -> Cause
                 id,
                 who,
                 there,
+                side,
             };
             if ahead(c, found) {
                 return c;
@@ -120,12 +126,12 @@ pub fn on_trace(a: Track, b: Track, ended: u64, end: Fraction) -> Touch
     }
     match contact::contact_of(a, b) {
         Touch::Nowhere => Touch::Nowhere,
-        Touch::Hit { at, there } => {
+        Touch::Hit { at, there, side } => {
             if ended == 0 {
-                return Touch::Hit { at, there };
+                return Touch::Hit { at, there, side };
             }
             if fraction::not_later(there, end) {
-                return Touch::Hit { at, there };
+                return Touch::Hit { at, there, side };
             }
             Touch::Nowhere
         }
@@ -139,7 +145,7 @@ pub fn with_track(c: Cause, b: Track, k: usize, t: Touch) -> Cause
 {
     match t {
         Touch::Nowhere => c,
-        Touch::Hit { at, there } => {
+        Touch::Hit { at, there, side } => {
             let id = b.id as u64;
             let who = k as u64;
             let found = Cause {
@@ -148,6 +154,7 @@ pub fn with_track(c: Cause, b: Track, k: usize, t: Touch) -> Cause
                 id,
                 who,
                 there,
+                side,
             };
             if ahead(c, found) {
                 return c;

@@ -1,7 +1,7 @@
 -- `with_wall` gives the first of a cause and a wall.
 use mathlib.Core.Path.{refl}
 use Rattle.cause.specs.Offer.{passed}
-use Rattle.cause.proofs.Answers.{unused-timely, at-timely, never-quot, wall-at}
+use Rattle.cause.proofs.Answers.{unused-timely, struck-timely, missed-wall, wall-at}
 use Rattle.cause.proofs.First.{least-first, least-second}
 use borrow.Author.Needs.{needs}
 use Rattle.cause.proofs.with_wall.Statement.{statement}
@@ -20,13 +20,13 @@ cast-id : tie.Need-cast-id
 cast-id c = search needs
 
 ahead-requires : tie.Need-ahead-requires
-ahead-requires c κs = (c .before .before .before .before .before .pre .0, record { at = at-timely (c .before .before .at .given .1) (c .before .before .before .before .wall-of .ensures .1); there = unused-timely })
+ahead-requires c κs = (c .before .before .before .before .before .pre .0, record { at = struck-timely (c .before .before .at .given .1) (c .before .before .before .before .wall-of .ensures .1); there = unused-timely })
 
 returns : tie.Need-returns
 returns c = wall-at (c .before .before .before .before .at .given .1) (c .before .before .before .before .before .before .wall-of .ensures) (least-first (c .before .ahead .ensures) (c .if1 .taken))
 
 returns-2 : tie.Need-returns-2
-returns-2 c = passed (never-quot (c .enum-told .given .1) (c .before .before .wall-of .ensures .0)) refl
+returns-2 c = passed (missed-wall (c .enum-told .given .1) (c .before .before .wall-of .ensures .0)) refl
 
 returns-3 : tie.Need-returns-3
 returns-3 c = wall-at (c .before .before .before .before .at .given .1) (c .before .before .before .before .before .before .wall-of .ensures) (least-second (c .before .ahead .ensures) (c .if1 .left))
