@@ -6,8 +6,9 @@ use reference::fraction::Fraction;
 use reference::made_up::{self, late};
 use reference::plane::Vector;
 use reference::rng::Rng;
-use reference::roll::{roll, roll_bytes, Ending, Row};
+use reference::roll::{roll, roll_bytes, Ending, Row, Side};
 use reference::sheet::{commands, listing, read, Records, Track};
+use std::cmp::Ordering;
 use std::collections::BTreeMap;
 
 type Ends = BTreeMap<u16, Fraction>;
@@ -131,8 +132,21 @@ fn walls(records: &Records) -> Vec<(u16, Mover)> {
     movers
 }
 
-/// The time and the ending that the rule gives the tip while the others end as in `ends`.
-fn by_the_rule(records: &Records, tip: &Track, ends: &Ends) -> (Fraction, Ending) {
+/// On which side of the mover's line the tip's own line comes from (SHEETS 4.14): by the point of a unit of time before,
+/// whether or not the tip had opened by then. What is on the left of a direction is counterclockwise from it.
+fn side(tip: Mover, time: Fraction, mover: Mover) -> Side {
+    let (x, y) = tip.at(time - Fraction::ONE);
+    let Mover { origin: q, speed: w, .. } = mover;
+    let counterclockwise = whole(w.x) * (y - whole(q.y)) - whole(w.y) * (x - whole(q.x));
+    match counterclockwise.cmp(&Fraction::ZERO) {
+        Ordering::Greater => Side::Left,
+        Ordering::Less => Side::Right,
+        Ordering::Equal => Side::Along,
+    }
+}
+
+/// The time, the ending and the side that the rule gives the tip while the others end as in `ends`.
+fn by_the_rule(records: &Records, tip: &Track, ends: &Ends) -> (Fraction, Ending, Side) {
     let (tracks, walls) = (other_tracks(records, tip, ends), walls(records));
     let tip = Mover::tip(tip, None);
     let on_track = tracks.iter().filter_map(|(_, mover)| earliest(tip, *mover, true));
@@ -141,11 +155,15 @@ fn by_the_rule(records: &Records, tip: &Track, ends: &Ends) -> (Fraction, Ending
 
     let blocks = |(id, mover): &(u16, Mover)| {
         let s = mover_there(tip, time, *mover).filter(|s| *s <= time)?;
-        Some(if s < time { Ending::Track(*id) } else { Ending::Meeting(*id) })
+        let ending = if s < time { Ending::Track(*id) } else { Ending::Meeting(*id) };
+        Some((ending, side(tip, time, *mover)))
     };
-    let stops = |(id, mover): &(u16, Mover)| mover_there(tip, time, *mover).map(|_| Ending::Wall(*id));
-    let track = tracks.iter().find_map(blocks);
-    (time, track.or_else(|| walls.iter().find_map(stops)).unwrap_or(Ending::Edge))
+    let stops = |(id, mover): &(u16, Mover)| {
+        mover_there(tip, time, *mover).map(|_| (Ending::Wall(*id), side(tip, time, *mover)))
+    };
+    let named = tracks.iter().find_map(blocks).or_else(|| walls.iter().find_map(stops));
+    let (ending, side) = named.unwrap_or((Ending::Edge, Side::None));
+    (time, ending, side)
 }
 
 /// Euclid's way; that of 0 and a number is the number.
@@ -158,8 +176,8 @@ fn greatest_common_factor(a: u64, b: u64) -> u64 {
 
 fn check_row(records: &Records, row: &Row, ends: &Ends) {
     let tip = records.tracks.iter().find(|track| track.id == row.id).expect("a track's row");
-    let (time, ending) = by_the_rule(records, tip, ends);
-    assert_eq!((row.time, row.ending), (time, ending), "id {} of {records:?}", row.id);
+    let (time, ending, side) = by_the_rule(records, tip, ends);
+    assert_eq!((row.time, row.ending, row.side), (time, ending, side), "id {} of {records:?}", row.id);
     let (x, y) = Mover::tip(tip, None).at(time);
     for (rounded, exact) in [(row.x, x), (row.y, y)] {
         let exact = exact * whole(64);
