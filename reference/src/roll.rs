@@ -23,8 +23,8 @@ pub enum Ending {
 /// one runs, a wall from a to b (SHEETS 4.14).
 #[derive(Clone, Copy, Debug, PartialEq, Eq, PartialOrd, Ord)]
 pub enum Side {
-    /// The edge has none.
-    None,
+    /// Of the edge.
+    NoSide,
     Left,
     Right,
     Along,
@@ -60,7 +60,7 @@ impl Ending {
 }
 
 impl Side {
-    pub const ALL: [Side; 4] = [Side::None, Side::Left, Side::Right, Side::Along];
+    pub const ALL: [Side; 4] = [Side::NoSide, Side::Left, Side::Right, Side::Along];
 
     /// That of a tip with this speed on a line with this direction.
     fn of(speed: Vector, direction: Vector) -> Self {
@@ -73,7 +73,7 @@ impl Side {
 
     pub fn number(self) -> u8 {
         match self {
-            Side::None => 0,
+            Side::NoSide => 0,
             Side::Left => 1,
             Side::Right => 2,
             Side::Along => 3,
@@ -142,7 +142,7 @@ impl Cause {
     fn side(self) -> Side {
         match self {
             Cause::Track { side, .. } | Cause::Wall { side, .. } => side,
-            Cause::Edge => Side::None,
+            Cause::Edge => Side::NoSide,
         }
     }
 }

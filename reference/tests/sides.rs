@@ -1,7 +1,7 @@
 //! From which side a tip came to the line that ended it (SHEETS 4.14), worked out by hand.
 
 use reference::chosen::{late, track, wall};
-use reference::roll::Side::{self, Along, Left, Right};
+use reference::roll::Side::{self, Along, Left, NoSide, Right};
 use reference::roll::{roll, roll_bytes, Row};
 use reference::sheet::{listing, read, Command, Track};
 
@@ -98,9 +98,9 @@ fn the_start_of_a_tip_that_has_gone_is_on_its_line() {
 
 #[test]
 fn the_edge_has_no_side() {
-    assert_eq!(ending(&[TIP]), (4, 0, Side::None));
-    assert_eq!(ending(&[track(1, 4095, 5, 1, 0)]), (4, 0, Side::None));
-    assert_eq!(ending(&[track(1, 4095, 5, 0, 1)]), (4, 0, Side::None));
+    assert_eq!(ending(&[TIP]), (4, 0, NoSide));
+    assert_eq!(ending(&[track(1, 4095, 5, 1, 0)]), (4, 0, NoSide));
+    assert_eq!(ending(&[track(1, 4095, 5, 0, 1)]), (4, 0, NoSide));
 }
 
 #[test]

@@ -45,7 +45,7 @@ pub fn draw(walls: &[Wall], traces: &[Trace], options: Options) -> String {
     let (width, height) = view.size();
     let (wide, high) = (width.pixels(), height.pixels());
     let lines = listed.as_ref().map_or_else(Vec::new, Listed::lines);
-    let sides = traces.iter().any(|trace| trace.row.side != Side::None);
+    let sides = traces.iter().any(|trace| trace.row.side != Side::NoSide);
     let legend = Legend::new(options.grid, traces.iter().any(Trace::is_late), sides, &lines);
     let total = (width + Fraction::whole(legend::WIDTH)).pixels();
     let total_high = height.max(Fraction::whole(legend.height() as i128)).pixels();
@@ -211,7 +211,7 @@ fn ending(trace: &Trace) -> String {
         Ending::Edge => "the edge".to_string(),
     };
     let side = match row.side {
-        Side::None => "",
+        Side::NoSide => "",
         Side::Left => " from its left",
         Side::Right => " from its right",
         Side::Along => " along its line",

@@ -57,7 +57,7 @@ fn ending(kind: u8, partner: u16) -> Option<Ending> {
 /// The side with that number; the edge has none, and nothing else has none (SHEETS 4.14).
 fn side(ending: Ending, number: u8) -> Option<Side> {
     let side = Side::ALL.into_iter().find(|side| side.number() == number)?;
-    ((ending == Ending::Edge) == (side == Side::None)).then_some(side)
+    ((ending == Ending::Edge) == (side == Side::NoSide)).then_some(side)
 }
 
 fn field<T: FromStr>(word: &str) -> Option<T> {

@@ -15,7 +15,7 @@ const ASIDE: i64 = 650;
 /// None at the edge.
 fn letter(side: Side) -> Option<&'static str> {
     match side {
-        Side::None => None,
+        Side::NoSide => None,
         Side::Left => Some("L"),
         Side::Right => Some("R"),
         Side::Along => Some("A"),

@@ -171,7 +171,7 @@ pub fn end(records: &Records, tip: &Track, ends: &Ends) -> End {
     let stops = |(id, mover): &(u16, Mover)| {
         mover_there(tip, time, *mover).map(|_| (Ending::Wall(*id), side(tip, time, *mover)))
     };
-    let edge = (time == last).then_some((Ending::Edge, Side::None));
+    let edge = (time == last).then_some((Ending::Edge, Side::NoSide));
     let causes = tracks.iter().filter_map(blocks).chain(walls.iter().filter_map(stops)).chain(edge);
     End { time, point: tip.at(time), causes: causes.collect() }
 }
