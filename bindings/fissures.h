@@ -43,8 +43,9 @@ enum fissure_refusal {
 };
 
 /* Bytes of a row, and where its fields begin: id of 2 bytes, kind 1, partner 2, the time's numerator 8 and denominator 8, x and y in 64ths
- * 4 each; all little-endian (docs/SHEETS.md, 5.6). The time is one of the whole sheet, also where the track starts later than at 0. */
-#define FISSURE_ROW 29
+ * 4 each, side 1; all little-endian (docs/SHEETS.md, 5.6). The time is one of the whole sheet, also where the track starts later than at
+ * 0. */
+#define FISSURE_ROW 30
 #define FISSURE_ROW_ID 0
 #define FISSURE_ROW_KIND 2
 #define FISSURE_ROW_PARTNER 3
@@ -52,9 +53,13 @@ enum fissure_refusal {
 #define FISSURE_ROW_DEN 13
 #define FISSURE_ROW_X 21
 #define FISSURE_ROW_Y 25
+#define FISSURE_ROW_SIDE 29
+/* From which side the tip came to the line that ended it, seen in the direction of the track or wall that is named; a wall's is from a to b
+ * (docs/SHEETS.md, 4.14). A tip that ends at the edge has no side. */
+enum fissure_side { FISSURE_NO_SIDE = 0, FISSURE_LEFT = 1, FISSURE_RIGHT = 2, FISSURE_ALONG = 3 };
 /* Room for the roll of any sheet: 256 rows. For the ids of any cell: 256 of 2 bytes. For the ordered form of any sheet: 256 tracks of
  * 11 bytes, 256 walls of 11 and the end. */
-#define FISSURE_LONGEST_ROLL 7424
+#define FISSURE_LONGEST_ROLL 7680
 #define FISSURE_LONGEST_CELL 512
 #define FISSURE_LONGEST_SHEET 5633
 /* Room for each of the four shapefiles of any sheet: a header of 100 bytes, and for each of 256 rows 88 of a trace, 28 of an end, 8 of an

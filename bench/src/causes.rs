@@ -41,7 +41,7 @@ impl Time {
     }
 }
 
-/// Classes: 0 a track, 1 a wall, 2 the edge.
+/// Classes: 0 a track, 1 a wall, 2 the edge. Sides: as in a row's last byte.
 #[derive(Clone, Copy)]
 pub struct Cause {
     pub at: Time,
@@ -49,10 +49,16 @@ pub struct Cause {
     pub id: u16,
     pub who: usize,
     pub reached: Time,
+    pub side: u8,
 }
 
+const NO_SIDE: u8 = 0;
+const LEFT: u8 = 1;
+const RIGHT: u8 = 2;
+const ALONG: u8 = 3;
+
 /// What a table holds before it is filled.
-pub const NO_CAUSE: Cause = Cause { at: ZERO, class: 2, id: 0, who: 0, reached: ZERO };
+pub const NO_CAUSE: Cause = Cause { at: ZERO, class: 2, id: 0, who: 0, reached: ZERO, side: NO_SIDE };
 
 impl Cause {
     fn order(&self, other: &Cause) -> Ordering {
@@ -76,6 +82,16 @@ fn cross(ux: i64, uy: i64, vx: i64, vy: i64) -> i64 {
     ux * vy - uy * vx
 }
 
+/// The side from which a tip comes to a line, by the cross product of its own direction with the line's (SHEETS 4.14, where the two
+/// stand the other way round).
+fn side(turn: i64) -> u8 {
+    match turn.cmp(&0) {
+        Ordering::Greater => LEFT,
+        Ordering::Less => RIGHT,
+        Ordering::Equal => ALONG,
+    }
+}
+
 /// The age of a at the point (dx, dy) from its start.
 fn reach(a: &Track, dx: i64, dy: i64) -> Option<Time> {
     let (vx, vy) = (i64::from(a.vx), i64::from(a.vy));
@@ -88,31 +104,33 @@ fn reach(a: &Track, dx: i64, dy: i64) -> Option<Time> {
     }
 }
 
-/// The ages of a and b at a point of both lines; on one line, at the start of the one in front.
-fn contact(a: &Track, b: &Track) -> Option<(Time, Time)> {
+/// The ages of a and b at a point of both lines, on one line at the start of the one in front, and the side from which a comes.
+fn contact(a: &Track, b: &Track) -> Option<(Time, Time, u8)> {
     let (vx, vy, wx, wy) = (i64::from(a.vx), i64::from(a.vy), i64::from(b.vx), i64::from(b.vy));
     let (dx, dy) = (gap(a.x, b.x), gap(a.y, b.y));
     let turn = cross(vx, vy, wx, wy);
     if turn == 0 {
-        let ahead = reach(a, dx, dy).map(|t| (t, ZERO));
-        return ahead.or_else(|| reach(b, -dx, -dy).map(|s| (ZERO, s)));
+        let ahead = reach(a, dx, dy).map(|t| (t, ZERO, ALONG));
+        return ahead.or_else(|| reach(b, -dx, -dy).map(|s| (ZERO, s, ALONG)));
     }
     let t = Time::quotient(cross(dx, dy, wx, wy), turn)?;
     let s = Time::quotient(cross(dx, dy, vx, vy), turn)?;
-    Some((t, s))
+    Some((t, s, side(turn)))
 }
 
-fn wall_time(a: &Track, w: &Wall) -> Option<Time> {
+/// The age of a at the wall, and the side from which it comes.
+fn wall_contact(a: &Track, w: &Wall) -> Option<(Time, u8)> {
     let (vx, vy) = (i64::from(a.vx), i64::from(a.vy));
     let (wx, wy) = (gap(w.ax, w.bx), gap(w.ay, w.by));
     let (dx, dy) = (gap(a.x, w.ax), gap(a.y, w.ay));
     let turn = cross(vx, vy, wx, wy);
     if turn == 0 {
-        return Time::sooner(reach(a, dx, dy), reach(a, gap(a.x, w.bx), gap(a.y, w.by)));
+        let nearer = Time::sooner(reach(a, dx, dy), reach(a, gap(a.x, w.bx), gap(a.y, w.by)));
+        return nearer.map(|t| (t, ALONG));
     }
     let t = Time::quotient(cross(dx, dy, wx, wy), turn)?;
     let s = Time::quotient(cross(dx, dy, vx, vy), turn)?;
-    s.order(ONE).is_le().then_some(t)
+    s.order(ONE).is_le().then_some((t, side(turn)))
 }
 
 fn edge_time(a: &Track) -> Time {
@@ -126,19 +144,19 @@ fn edge_time(a: &Track) -> Time {
 
 /// The edge, which ends every tip at last.
 pub fn edge(a: &Track) -> Cause {
-    Cause { at: edge_time(a).of(a), class: 2, id: 0, who: 0, reached: ZERO }
+    Cause { at: edge_time(a).of(a), class: 2, id: 0, who: 0, reached: ZERO, side: NO_SIDE }
 }
 
 /// Tip a at wall number `who`.
 pub fn at_wall(a: &Track, who: usize, w: &Wall) -> Option<Cause> {
-    wall_time(a, w).map(|age| Cause { at: age.of(a), class: 1, id: w.id, who, reached: ZERO })
+    wall_contact(a, w).map(|(age, side)| Cause { at: age.of(a), class: 1, id: w.id, who, reached: ZERO, side })
 }
 
 /// Tip a at a point of the line of tip b, number `who`, which b reaches no later.
 pub fn at_track(a: &Track, who: usize, b: &Track) -> Option<Cause> {
-    let (own, other) = contact(a, b)?;
+    let (own, other, side) = contact(a, b)?;
     let (at, reached) = (own.of(a), other.of(b));
-    reached.order(at).is_le().then_some(Cause { at, class: 0, id: b.id, who, reached })
+    reached.order(at).is_le().then_some(Cause { at, class: 0, id: b.id, who, reached, side })
 }
 
 fn gcd(a: u64, b: u64) -> u64 {
@@ -170,4 +188,5 @@ pub fn write_row(out: &mut [u8], a: &Track, c: &Cause) {
     out[13..21].copy_from_slice(&den.to_le_bytes());
     out[21..25].copy_from_slice(&place(a.x, a.vx).to_le_bytes());
     out[25..29].copy_from_slice(&place(a.y, a.vy).to_le_bytes());
+    out[29] = c.side;
 }

@@ -7,7 +7,7 @@ mod row;
 mod shapefiles;
 
 pub use refusal::Refusal;
-pub use row::{Row, ROW};
+pub use row::{Row, Side, ROW};
 pub use shapefiles::*;
 
 /// Room for the roll of any sheet: 256 rows.

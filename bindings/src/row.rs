@@ -3,7 +3,32 @@
 use std::fmt::{Display, Formatter, Result};
 
 /// Bytes of a row.
-pub const ROW: usize = 29;
+pub const ROW: usize = 30;
+
+/// From which side a tip came to the line that ended it, seen in the direction of the track or wall that is named; a wall's is from a to b
+/// (SHEETS 4.14).
+#[derive(Clone, Copy, Debug, PartialEq, Eq)]
+pub enum Side {
+    /// At the edge.
+    NoSide = 0,
+    Left = 1,
+    Right = 2,
+    /// Along the line.
+    Along = 3,
+}
+
+impl Side {
+    pub const ALL: [Side; 4] = [Side::NoSide, Side::Left, Side::Right, Side::Along];
+
+    pub fn number(self) -> u8 {
+        self as u8
+    }
+
+    /// The side with the number, if there is one.
+    pub fn of(number: u8) -> Option<Side> {
+        Side::ALL.into_iter().find(|side| side.number() == number)
+    }
+}
 
 /// A row in a roll's bytes (SHEETS 5.6). Each number has its low byte first.
 #[derive(Clone, Copy, Debug, PartialEq, Eq)]
@@ -18,6 +43,7 @@ impl<'a> Row<'a> {
     pub const DEN: usize = 13;
     pub const X: usize = 21;
     pub const Y: usize = 25;
+    pub const SIDE: usize = 29;
 
     /// The rows that lie in these bytes one behind the other, from the first byte on.
     pub fn all(bytes: &'a [u8]) -> impl Iterator<Item = Row<'a>> {
@@ -55,12 +81,17 @@ impl<'a> Row<'a> {
     pub fn y(self) -> u32 {
         u32::from_le_bytes(self.field(Row::Y))
     }
+
+    /// Every row that the library writes has one. Other bytes may not: above 3 no number is a side's (SHEETS 5.8).
+    pub fn side(self) -> Option<Side> {
+        Side::of(self.0[Row::SIDE])
+    }
 }
 
 /// As program `roll` prints it (SHEETS 9.1).
 impl Display for Row<'_> {
     fn fmt(&self, f: &mut Formatter<'_>) -> Result {
-        let (num, den) = self.time();
-        write!(f, "{} {} {} {num}/{den} {} {}", self.id(), self.kind(), self.partner(), self.x(), self.y())
+        let ((num, den), side) = (self.time(), self.0[Row::SIDE]);
+        write!(f, "{} {} {} {num}/{den} {} {} {side}", self.id(), self.kind(), self.partner(), self.x(), self.y())
     }
 }

@@ -1,7 +1,7 @@
 //! Each function of the proved library against the reference implementation, on sheets valid and damaged, long and short, with buffers
 //! that are too short by one byte, exact, and longer than needed.
 
-use fissures::{numbers, Cell, GridRoll, Place, Row, Session, Shapefile, LONGEST_ROLL, ROW, SHAPEFILES};
+use fissures::{numbers, Cell, GridRoll, Place, Row, Session, Shapefile, Side, LONGEST_ROLL, ROW, SHAPEFILES};
 use reference::cells::{self, FIGURES};
 use reference::made_up::entering::{entering, entering_late, Entering};
 use reference::made_up::{self, late, BORDERS, COARSE, SMALL};
@@ -75,7 +75,7 @@ fn order() {
 
 #[test]
 fn plain() {
-    for sheet in sheets(3) {
+    for sheet in sheets(3).into_iter().chain(reference::chosen::sides::sheets()) {
         let expected = read(&sheet).map(|records| roll(&records)).map(|rows| (rows.len(), roll_bytes(&rows)));
         compare(&expected, |out| fissures::plain(&sheet, out));
     }
@@ -93,6 +93,7 @@ fn rows_read_back() {
             assert_eq!((row.id(), row.time()), (expected.id, expected.time_in_lowest_terms()));
             assert_eq!((row.kind(), row.partner()), (expected.ending.kind(), expected.ending.partner()));
             assert_eq!((row.x(), row.y()), (expected.x, expected.y));
+            assert_eq!(row.side().map(Side::number), Some(expected.side.number()));
             assert_eq!(row.to_string(), expected.to_string());
         }
     }

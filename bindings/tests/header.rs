@@ -1,6 +1,6 @@
 //! The names of fissures.h and those here stand for the same numbers.
 
-use fissures::{numbers, Place, Refusal, Row, ENOUGH, ROW};
+use fissures::{numbers, Place, Refusal, Row, Side, ENOUGH, ROW};
 use fissures::{LONGEST_CELL, LONGEST_ENDS_SHP, LONGEST_ENDS_SHX, LONGEST_ROLL};
 use fissures::{LONGEST_SHEET, LONGEST_TRACES_SHP, LONGEST_TRACES_SHX};
 use std::collections::BTreeMap;
@@ -40,6 +40,7 @@ fn same_numbers() {
         ("TRACKS", Place::TRACKS),
         ("WALLS", Place::WALLS),
     ];
+    let sides = [("NO_SIDE", Side::NoSide), ("LEFT", Side::Left), ("RIGHT", Side::Right), ("ALONG", Side::Along)];
     let lengths = [
         ("ROW", ROW),
         ("ROW_ID", Row::ID),
@@ -49,6 +50,7 @@ fn same_numbers() {
         ("ROW_DEN", Row::DEN),
         ("ROW_X", Row::X),
         ("ROW_Y", Row::Y),
+        ("ROW_SIDE", Row::SIDE),
         ("LONGEST_ROLL", LONGEST_ROLL),
         ("LONGEST_CELL", LONGEST_CELL),
         ("LONGEST_SHEET", LONGEST_SHEET),
@@ -59,9 +61,21 @@ fn same_numbers() {
         ("ENOUGH", ENOUGH),
         ("SESSION", numbers::SIZE),
     ];
-    assert_eq!((LONGEST_SHEET, ENOUGH), (5633, 5643));
+    assert_eq!((LONGEST_SHEET, ENOUGH, LONGEST_ROLL), (5633, 5643, 7680));
     let lengths = lengths.map(|(name, length)| (name, length as u64));
-    assert_eq!(header(), here.into_iter().chain(lengths).collect());
+    let sides = sides.map(|(name, side)| (name, side.number().into()));
+    assert_eq!(header(), here.into_iter().chain(lengths).chain(sides).collect());
+}
+
+#[test]
+fn sides_by_number() {
+    assert_eq!(Side::ALL.map(Side::number), [0, 1, 2, 3]);
+    for number in 0..=u8::MAX {
+        let mut bytes = [7; ROW];
+        bytes[Row::SIDE] = number;
+        assert_eq!(Row(&bytes).side(), Side::ALL.get(usize::from(number)).copied());
+        assert!(Row(&bytes).to_string().ends_with(&format!(" {number}")));
+    }
 }
 
 #[test]

@@ -53,17 +53,23 @@ fn at_the_desk(sheet: &str) -> String {
 #[test]
 fn desk_in_c() {
     compile("desk");
-    let steps = "track 1 ended on the trace of 2 (east)\ntrack 2 ended on the trace of 3 (south)\n2 still running\n\
-                 track 3 ended on the trace of 4\ntrack 4 ended on the trace of 1 (north)\n0 still running\n";
+    let steps = "track 1 ended on the trace of 2 (east), from the left\n\
+                 track 2 ended on the trace of 3 (south), from the left\n2 still running\n\
+                 track 3 ended on the trace of 4, from the left\n\
+                 track 4 ended on the trace of 1 (north), from the left\n0 still running\n";
     assert_eq!(at_the_desk("E.sheet"), steps);
-    let wall = "track 2 ended at wall 1 (quay)\ntrack 1 ended at the edge\n0 still running\n";
+    let wall = "track 2 ended at wall 1 (quay), from the right\ntrack 1 ended at the edge\n0 still running\n";
     assert_eq!(at_the_desk("F.sheet"), wall);
-    let meeting = "track 1 ended meeting 2 (east)\ntrack 2 ended meeting 1 (north)\n0 still running\n";
+    let meeting = "track 1 ended meeting 2 (east), from the left\n\
+                   track 2 ended meeting 1 (north), from the right\n0 still running\n";
     assert_eq!(at_the_desk("B.sheet"), meeting);
     // After the two rows of time 10 one of the two tracks that are left has yet to open.
-    let late = "track 3 ended meeting 4\ntrack 4 ended meeting 3 (south)\n2 still running\n\
-                track 1 ended at the edge\ntrack 2 ended on the trace of 1 (north)\n0 still running\n";
+    let late =
+        "track 3 ended meeting 4, from the left\ntrack 4 ended meeting 3 (south), from the right\n2 still running\n\
+                track 1 ended at the edge\ntrack 2 ended on the trace of 1 (north), from the right\n0 still running\n";
     assert_eq!(at_the_desk("late.sheet"), late);
+    let along = "track 1 ended on the trace of 2 (east), along its line\ntrack 2 ended at the edge\n0 still running\n";
+    assert_eq!(at_the_desk("G.sheet"), along);
     assert_eq!(at_the_desk("K.sheet"), "0 still running\n");
     assert_eq!(at_the_desk("facing.sheet"), "refused 11 9\n");
 }

@@ -1,5 +1,5 @@
 /* Steps through a sheet's roll with the proved library, two rows at a time, and prints for each row its track, how it ended, with the
- * partner's name, and after each step how many tracks still run. The names stand in this program.
+ * partner's name and the side, and after each step how many tracks still run. The names stand in this program.
  * From the repository's root:
  *   rt staticlib fissures_c
  *   cc -std=c99 -Ibindings examples/c/desk.c target/staticlib/libfissures_c.a -o target/desk-c
@@ -17,6 +17,7 @@ static const uint8_t track_names[] = "\1\0\5north\2\0\4east\3\0\5south";
 static const uint8_t wall_names[] = "\1\0\4quay";
 
 static const char *const endings[] = {"", "on the trace of", "meeting", "at wall", "at the edge"};
+static const char *const sides[] = {"", ", from the left", ", from the right", ", along its line"};
 
 /* The number that some bytes stand for, low byte first. */
 static uint64_t number_at(const uint8_t *bytes, int width) {
@@ -33,7 +34,7 @@ static void print_row(const uint8_t *row) {
     printf("track %" PRIu64 " ended %s", number_at(row + FISSURE_ROW_ID, 2), endings[kind]);
     if (kind < 4) printf(" %" PRIu64, partner);
     if (size > 0) printf(" (%.*s)", (int)size, (const char *)name);
-    printf("\n");
+    printf("%s\n", sides[row[FISSURE_ROW_SIDE]]);
 }
 
 int main(void) {

@@ -23,7 +23,8 @@ static void print_row(const uint8_t *row) {
     printf("%" PRIu64 " %d ", number_at(row + FISSURE_ROW_ID, 2), row[FISSURE_ROW_KIND]);
     printf("%" PRIu64 " ", number_at(row + FISSURE_ROW_PARTNER, 2));
     printf("%" PRIu64 "/%" PRIu64 " ", number_at(row + FISSURE_ROW_NUM, 8), number_at(row + FISSURE_ROW_DEN, 8));
-    printf("%" PRIu64 " %" PRIu64 "\n", number_at(row + FISSURE_ROW_X, 4), number_at(row + FISSURE_ROW_Y, 4));
+    printf("%" PRIu64 " %" PRIu64 " ", number_at(row + FISSURE_ROW_X, 4), number_at(row + FISSURE_ROW_Y, 4));
+    printf("%d\n", row[FISSURE_ROW_SIDE]);
 }
 
 int main(void) {

@@ -121,13 +121,14 @@ pub fn read_frames(input: &mut impl Read) -> io::Result<Vec<Frame>> {
     Ok(frames)
 }
 
-/// The sheets, records and lookups that the proved program is asked. Sheets with start times come after the others, and
-/// those for the shapefiles after both, so that what stands before them does not depend on them.
+/// The sheets, records and lookups that the proved program is asked. Sheets with start times come after the others, those
+/// for the shapefiles after both, and those for the sides last, so that what stands before them does not depend on them.
 pub fn all(seed: u64) -> Vec<Frame> {
     let at_once = [chosen::without_start_times(), made_up::without_start_times(seed)].concat();
     let late = [chosen::late::sheets(), made_up::late::all(seed)].concat();
     let shapes = [chosen::shapes::sheets(), made_up::shapes::all(seed)].concat();
-    let sheets = [at_once, late, shapes].map(|sheets| made_up::with_other_orders(seed, sheets)).concat();
+    let sides = [chosen::sides::sheets(), made_up::sides::all(seed)].concat();
+    let sheets = [at_once, late, shapes, sides].map(|sheets| made_up::with_other_orders(seed, sheets)).concat();
     let records = [chosen::handed_in::all(), made_up::handed_in::all(seed)].concat();
     let lookups = [chosen::names::all(), made_up::names::all(seed)].concat();
     let sheets = sheets.into_iter().map(Frame::Sheet);

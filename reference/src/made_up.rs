@@ -5,6 +5,7 @@ pub mod handed_in;
 pub mod late;
 pub mod names;
 pub mod shapes;
+pub mod sides;
 
 use crate::rng::Rng;
 use crate::sheet::{listing, read, whole_commands, Command, Records, Track, Wall, MAX_COORDINATE};
@@ -225,7 +226,7 @@ pub fn with_other_orders(seed: u64, sheets: Vec<Vec<u8>>) -> Vec<Vec<u8>> {
 
 /// All made-up sheets of one seed.
 pub fn all(seed: u64) -> Vec<Vec<u8>> {
-    [without_start_times(seed), late::all(seed), shapes::all(seed)].concat()
+    [without_start_times(seed), late::all(seed), sides::all(seed), shapes::all(seed)].concat()
 }
 
 /// Those that list no 03, unless damage makes one.

@@ -19,6 +19,17 @@ pub enum Ending {
     Edge,
 }
 
+/// From which side a tip came to the line that ended it: the line of the partner, seen in the direction in which that
+/// one runs, a wall from a to b (SHEETS 4.14).
+#[derive(Clone, Copy, Debug, PartialEq, Eq, PartialOrd, Ord)]
+pub enum Side {
+    /// Of the edge.
+    NoSide,
+    Left,
+    Right,
+    Along,
+}
+
 #[derive(Clone, Copy, Debug, PartialEq, Eq)]
 pub struct Row {
     pub id: u16,
@@ -27,6 +38,7 @@ pub struct Row {
     /// The end point in 64ths of a unit, rounded down (SHEETS 5.4).
     pub x: u32,
     pub y: u32,
+    pub side: Side,
 }
 
 impl Ending {
@@ -47,13 +59,35 @@ impl Ending {
     }
 }
 
-impl Row {
-    pub const LENGTH: usize = 29;
+impl Side {
+    pub const ALL: [Side; 4] = [Side::NoSide, Side::Left, Side::Right, Side::Along];
 
-    fn new(track: &Track, time: Fraction, ending: Ending) -> Self {
+    /// That of a tip with this speed on a line with this direction.
+    fn of(speed: Vector, direction: Vector) -> Self {
+        match direction.cross(speed) {
+            ..0 => Side::Left,
+            0 => Side::Along,
+            1.. => Side::Right,
+        }
+    }
+
+    pub fn number(self) -> u8 {
+        match self {
+            Side::NoSide => 0,
+            Side::Left => 1,
+            Side::Right => 2,
+            Side::Along => 3,
+        }
+    }
+}
+
+impl Row {
+    pub const LENGTH: usize = 30;
+
+    fn new(track: &Track, time: Fraction, ending: Ending, side: Side) -> Self {
         let in_64ths = |place: Fraction| u32::try_from(place.in_64ths()).expect("an end point inside the sheet");
         let (x, y) = track.at(time);
-        Row { id: track.id, ending, time, x: in_64ths(x), y: in_64ths(y) }
+        Row { id: track.id, ending, time, x: in_64ths(x), y: in_64ths(y), side }
     }
 
     /// Numerator and denominator of the time (SHEETS 5.3).
@@ -72,21 +106,22 @@ impl Row {
         bytes.extend(denominator.to_le_bytes());
         bytes.extend(self.x.to_le_bytes());
         bytes.extend(self.y.to_le_bytes());
+        bytes.push(self.side.number());
     }
 }
 
 /// As program `roll` prints it (SHEETS 9.1).
 impl fmt::Display for Row {
     fn fmt(&self, f: &mut fmt::Formatter<'_>) -> fmt::Result {
-        let Row { id, ending, x, y, .. } = self;
+        let Row { id, ending, x, y, side, .. } = self;
         let (numerator, denominator) = self.time_in_lowest_terms();
-        let (kind, partner) = (ending.kind(), ending.partner());
-        write!(f, "{id} {kind} {partner} {numerator}/{denominator} {x} {y}")
+        let (kind, partner, side) = (ending.kind(), ending.partner(), side.number());
+        write!(f, "{id} {kind} {partner} {numerator}/{denominator} {x} {y} {side}")
     }
 }
 
 /// What may end a tip. Of several at one time the first in this order is named (SHEETS 4.9): tracks,
-/// walls, the edge, and within a kind the smallest id.
+/// walls, the edge, and within a kind the smallest id, so that the side never decides.
 #[derive(Clone, Copy, Debug, PartialEq, Eq, PartialOrd, Ord)]
 enum Cause {
     /// The other track's id, its place among the tracks, and when it got to the point.
@@ -94,11 +129,22 @@ enum Cause {
         id: u16,
         index: usize,
         reached: Fraction,
+        side: Side,
     },
     Wall {
         id: u16,
+        side: Side,
     },
     Edge,
+}
+
+impl Cause {
+    fn side(self) -> Side {
+        match self {
+            Cause::Track { side, .. } | Cause::Wall { side, .. } => side,
+            Cause::Edge => Side::NoSide,
+        }
+    }
 }
 
 /// An entry of the sweep. Its order is that of the roll, and then that of causes.
@@ -115,9 +161,9 @@ fn at_age(tip: &Track, age: Fraction) -> Fraction {
     Fraction::whole(tip.start_time) + age
 }
 
-/// When tip `a` gets to a point of the line of tip `b`, and when `b` got there, if `b` is first or
-/// both come together (SHEETS 4.5).
-fn contact_with_track(a: &Track, b: &Track) -> Option<(Fraction, Fraction)> {
+/// When tip `a` gets to a point of the line of tip `b`, when `b` got there, and from which side `a`
+/// comes, if `b` is first or both come together (SHEETS 4.5, 4.14).
+fn contact_with_track(a: &Track, b: &Track) -> Option<(Fraction, Fraction, Side)> {
     let (v, w) = (a.speed(), b.speed());
     let between = b.start() - a.start();
     let turn = v.cross(w);
@@ -128,7 +174,7 @@ fn contact_with_track(a: &Track, b: &Track) -> Option<(Fraction, Fraction)> {
     };
     let (own, other) = ages.filter(|(own, other)| *own.min(other) >= Fraction::ZERO)?;
     let (time, reached) = (at_age(a, own), at_age(b, other));
-    (reached <= time).then_some((time, reached))
+    (reached <= time).then_some((time, reached, Side::of(v, w)))
 }
 
 /// The ages of two tips on one line at the start of the one in front, if they go the same way. Beyond
@@ -141,7 +187,8 @@ fn ages_along_line(v: Vector, w: Vector, between: Vector) -> Option<(Fraction, F
     one_line.then_some(ages)
 }
 
-fn contact_with_wall(track: &Track, wall: &Wall) -> Option<Fraction> {
+/// When the tip gets to the wall, and from which side.
+fn contact_with_wall(track: &Track, wall: &Wall) -> Option<(Fraction, Side)> {
     let (v, along) = (track.speed(), wall.b() - wall.a());
     let (to_a, to_b) = (wall.a() - track.start(), wall.b() - track.start());
     let turn = v.cross(along);
@@ -154,7 +201,8 @@ fn contact_with_wall(track: &Track, wall: &Wall) -> Option<Fraction> {
         let on_wall = Fraction::ZERO <= part && part <= Fraction::ONE;
         on_wall.then(|| Fraction::new(to_a.cross(along), turn))
     };
-    age.filter(|age| *age >= Fraction::ZERO).map(|age| at_age(track, age))
+    let age = age.filter(|age| *age >= Fraction::ZERO)?;
+    Some((at_age(track, age), Side::of(v, along)))
 }
 
 /// The last moment inside the sheet (SHEETS 4.4).
@@ -172,13 +220,13 @@ fn events_of(index: usize, records: &Records) -> Vec<Event> {
     let event = |time, cause| Event { time, id: track.id, index, cause };
     let mut events = vec![event(contact_with_edge(track), Cause::Edge)];
     for wall in &records.walls {
-        if let Some(time) = contact_with_wall(track, wall) {
-            events.push(event(time, Cause::Wall { id: wall.id }));
+        if let Some((time, side)) = contact_with_wall(track, wall) {
+            events.push(event(time, Cause::Wall { id: wall.id, side }));
         }
     }
     for (other, partner) in records.tracks.iter().enumerate().filter(|(other, _)| *other != index) {
-        if let Some((time, reached)) = contact_with_track(track, partner) {
-            events.push(event(time, Cause::Track { id: partner.id, index: other, reached }));
+        if let Some((time, reached, side)) = contact_with_track(track, partner) {
+            events.push(event(time, Cause::Track { id: partner.id, index: other, reached, side }));
         }
     }
     events
@@ -197,7 +245,7 @@ pub fn roll(records: &Records) -> Vec<Row> {
         };
         if ended[index].is_none() && counts {
             ended[index] = Some(time);
-            rows.push(Row::new(&records.tracks[index], time, ending(cause, time)));
+            rows.push(Row::new(&records.tracks[index], time, ending(cause, time), cause.side()));
         }
     }
     rows
@@ -207,12 +255,12 @@ fn ending(cause: Cause, time: Fraction) -> Ending {
     match cause {
         Cause::Track { id, reached, .. } if reached < time => Ending::Track(id),
         Cause::Track { id, .. } => Ending::Meeting(id),
-        Cause::Wall { id } => Ending::Wall(id),
+        Cause::Wall { id, .. } => Ending::Wall(id),
         Cause::Edge => Ending::Edge,
     }
 }
 
-/// The rows in bytes, 29 each (SHEETS 5.6).
+/// The rows in bytes, one behind the other (SHEETS 5.6).
 pub fn roll_bytes(rows: &[Row]) -> Vec<u8> {
     let mut bytes = Vec::with_capacity(rows.len() * Row::LENGTH);
     for row in rows {

@@ -4,10 +4,10 @@ use reference::chosen::{late, track, wall};
 use reference::roll::{roll, roll_bytes, Row};
 use reference::sheet::{listing, read, Command};
 
-/// The lines of `roll`, without the points: id, kind, partner, time.
+/// The lines of `roll`, without the points and the sides: id, kind, partner, time.
 fn endings(commands: &[Command]) -> Vec<String> {
     let records = read(&listing(commands.iter().copied())).expect("accepted");
-    let words = |row: &Row| row.to_string().rsplitn(3, ' ').last().expect("a row").to_string();
+    let words = |row: &Row| row.to_string().rsplitn(4, ' ').last().expect("a row").to_string();
     roll(&records).iter().map(words).collect()
 }
 

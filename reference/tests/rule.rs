@@ -1,152 +1,17 @@
 //! The rolls held against the rule of ending itself (SHEETS 4.11), with the other rows'
-//! times put in for the other tips' ends. Nothing here goes by the order of events.
+//! times put in for the other tips' ends.
 
+mod causes;
+
+use causes::{end, ends, End, Ends};
 use reference::chosen;
 use reference::fraction::Fraction;
-use reference::made_up::{self, late};
-use reference::plane::Vector;
+use reference::frames::{self, Frame};
+use reference::made_up::{self, late, sides};
 use reference::rng::Rng;
-use reference::roll::{roll, roll_bytes, Ending, Row};
-use reference::sheet::{commands, listing, read, Records, Track};
+use reference::roll::{roll, roll_bytes, Ending, Row, Side};
+use reference::sheet::{commands, listing, read, Records};
 use std::collections::BTreeMap;
-
-type Ends = BTreeMap<u16, Fraction>;
-
-/// All times t with from ≤ t ≤ to; `to` may be missing.
-#[derive(Clone, Copy)]
-struct Span {
-    from: Fraction,
-    to: Option<Fraction>,
-}
-
-impl Span {
-    /// Keeps the times at which constant + slope × t ≥ 0.
-    fn keep(self, constant: Fraction, slope: Fraction) -> Option<Span> {
-        let mut kept = self;
-        if slope == Fraction::ZERO {
-            return (constant >= Fraction::ZERO).then_some(kept);
-        }
-        let zero = (-constant).over(slope);
-        if slope > Fraction::ZERO {
-            kept.from = kept.from.max(zero);
-        } else {
-            kept.to = Some(kept.to.map_or(zero, |to| to.min(zero)));
-        }
-        kept.to.is_none_or(|to| kept.from <= to).then_some(kept)
-    }
-}
-
-fn whole(number: i64) -> Fraction {
-    Fraction::whole(number)
-}
-
-/// A point that moves from one time on to another. `origin` is where it would be at time 0. A wall is one too, going from
-/// end to end by time 1 of a clock of its own.
-#[derive(Clone, Copy)]
-struct Mover {
-    origin: Vector,
-    speed: Vector,
-    from: Fraction,
-    to: Option<Fraction>,
-}
-
-impl Mover {
-    /// At t it is at its start + (t − start time) × speed (SHEETS 4.1), from its start time on.
-    fn tip(track: &Track, end: Option<Fraction>) -> Mover {
-        let from = i64::from(track.start_time);
-        Mover { origin: track.start() - track.speed() * from, speed: track.speed(), from: whole(from), to: end }
-    }
-
-    fn wall(a: Vector, b: Vector) -> Mover {
-        Mover { origin: a, speed: b - a, from: Fraction::ZERO, to: Some(Fraction::ONE) }
-    }
-
-    fn at(&self, time: Fraction) -> (Fraction, Fraction) {
-        let along = |origin: i64, speed: i64| whole(origin) + whole(speed) * time;
-        (along(self.origin.x, self.speed.x), along(self.origin.y, self.speed.y))
-    }
-
-    fn times(&self) -> Span {
-        Span { from: self.from, to: self.to }
-    }
-}
-
-/// The earliest t from the tip's start time on at which it is where the mover is at some s of the
-/// mover's times, with s ≤ t if the mover has to be there first.
-fn earliest(tip: Mover, mover: Mover, first: bool) -> Option<Fraction> {
-    let (p, v) = (tip.origin, tip.speed);
-    let Mover { origin: q, speed: w, from, to } = mover;
-    // s as constant + slope × t, from a coordinate in which the mover moves.
-    let (constant, slope) = if w.x != 0 {
-        (Fraction::new(p.x - q.x, w.x), Fraction::new(v.x, w.x))
-    } else {
-        (Fraction::new(p.y - q.y, w.y), Fraction::new(v.y, w.y))
-    };
-    let mut span = tip.times().keep(constant - from, slope)?;
-    if let Some(to) = to {
-        span = span.keep(to - constant, -slope)?;
-    }
-    if first {
-        span = span.keep(-constant, Fraction::ONE - slope)?;
-    }
-    // Both coordinates agree: two inequalities each.
-    for (p, v, q, w) in [(p.x, v.x, q.x, w.x), (p.y, v.y, q.y, w.y)] {
-        let constant = whole(p - q) - whole(w) * constant;
-        let slope = whole(v) - whole(w) * slope;
-        span = span.keep(constant, slope)?.keep(-constant, -slope)?;
-    }
-    Some(span.from)
-}
-
-/// When the mover is at the tip's place of that time.
-fn mover_there(tip: Mover, time: Fraction, mover: Mover) -> Option<Fraction> {
-    let (x, y) = tip.at(time);
-    let Mover { origin: q, speed: w, from, to } = mover;
-    let s = if w.x != 0 { (x - whole(q.x)).over(whole(w.x)) } else { (y - whole(q.y)).over(whole(w.y)) };
-    let there = mover.at(s) == (x, y) && s >= from && to.is_none_or(|to| s <= to);
-    there.then_some(s)
-}
-
-fn last_inside(tip: Mover) -> Fraction {
-    let mut span = tip.times();
-    for (origin, speed) in [(tip.origin.x, tip.speed.x), (tip.origin.y, tip.speed.y)] {
-        let inside = span.keep(whole(origin), whole(speed));
-        let inside = inside.and_then(|span| span.keep(whole(4095 - origin), whole(-speed)));
-        span = inside.expect("a start inside the sheet");
-    }
-    span.to.expect("a tip that moves")
-}
-
-fn other_tracks(records: &Records, tip: &Track, ends: &Ends) -> Vec<(u16, Mover)> {
-    let others = records.tracks.iter().filter(|other| other.id != tip.id);
-    let mover = |other: &Track| Mover::tip(other, Some(ends[&other.id]));
-    let mut movers: Vec<_> = others.map(|other| (other.id, mover(other))).collect();
-    movers.sort_by_key(|(id, _)| *id);
-    movers
-}
-
-fn walls(records: &Records) -> Vec<(u16, Mover)> {
-    let mut movers: Vec<_> = records.walls.iter().map(|wall| (wall.id, Mover::wall(wall.a(), wall.b()))).collect();
-    movers.sort_by_key(|(id, _)| *id);
-    movers
-}
-
-/// The time and the ending that the rule gives the tip while the others end as in `ends`.
-fn by_the_rule(records: &Records, tip: &Track, ends: &Ends) -> (Fraction, Ending) {
-    let (tracks, walls) = (other_tracks(records, tip, ends), walls(records));
-    let tip = Mover::tip(tip, None);
-    let on_track = tracks.iter().filter_map(|(_, mover)| earliest(tip, *mover, true));
-    let on_wall = walls.iter().filter_map(|(_, mover)| earliest(tip, *mover, false));
-    let time = on_track.chain(on_wall).fold(last_inside(tip), Fraction::min);
-
-    let blocks = |(id, mover): &(u16, Mover)| {
-        let s = mover_there(tip, time, *mover).filter(|s| *s <= time)?;
-        Some(if s < time { Ending::Track(*id) } else { Ending::Meeting(*id) })
-    };
-    let stops = |(id, mover): &(u16, Mover)| mover_there(tip, time, *mover).map(|_| Ending::Wall(*id));
-    let track = tracks.iter().find_map(blocks);
-    (time, track.or_else(|| walls.iter().find_map(stops)).unwrap_or(Ending::Edge))
-}
 
 /// Euclid's way; that of 0 and a number is the number.
 fn greatest_common_factor(a: u64, b: u64) -> u64 {
@@ -158,11 +23,10 @@ fn greatest_common_factor(a: u64, b: u64) -> u64 {
 
 fn check_row(records: &Records, row: &Row, ends: &Ends) {
     let tip = records.tracks.iter().find(|track| track.id == row.id).expect("a track's row");
-    let (time, ending) = by_the_rule(records, tip, ends);
-    assert_eq!((row.time, row.ending), (time, ending), "id {} of {records:?}", row.id);
-    let (x, y) = Mover::tip(tip, None).at(time);
+    let End { time, point: (x, y), causes } = end(records, tip, ends);
+    assert_eq!((row.time, (row.ending, row.side)), (time, causes[0]), "id {} of {records:?}", row.id);
     for (rounded, exact) in [(row.x, x), (row.y, y)] {
-        let exact = exact * whole(64);
+        let exact = exact * Fraction::whole(64);
         let rounded = Fraction::whole(rounded);
         assert!(rounded <= exact && exact < rounded + Fraction::ONE);
     }
@@ -175,7 +39,7 @@ fn check_row(records: &Records, row: &Row, ends: &Ends) {
 /// Every row is the rule's, there is one for each track, and they are in the roll's order.
 fn check_roll(records: &Records) -> Vec<Row> {
     let rows = roll(records);
-    let ends: Ends = rows.iter().map(|row| (row.id, row.time)).collect();
+    let ends = ends(&rows);
     assert_eq!(rows.len(), records.tracks.len());
     assert_eq!(ends.len(), rows.len());
     assert!(rows.is_sorted_by_key(|row| (row.time, row.id)));
@@ -235,6 +99,72 @@ fn rolls_of_sheets_with_start_times_are_the_rule_s() {
     assert!(all[1..].iter().all(|count| *count > 500), "{all:?}");
     // No start is on a wall, so no tip ends on one as it opens.
     assert!(at_once[1] > 500 && at_once[2] > 500 && at_once[3] == 0 && at_once[4] > 500, "{at_once:?}");
+}
+
+#[test]
+fn rolls_of_sheets_with_causes_at_one_time_are_the_rule_s() {
+    let mut rng = Rng::new(15);
+    for make in sides::MAKERS {
+        for _ in 0..3000 {
+            check_roll(&read(&make(&mut rng)).expect("accepted"));
+        }
+    }
+}
+
+/// The records of all accepted sheets and lists that the proved program is asked.
+fn asked() -> impl Iterator<Item = Records> {
+    frames::all(1).into_iter().filter_map(|frame| match frame {
+        Frame::Sheet(sheet) => read(&sheet).ok(),
+        Frame::Records(handed_in) => handed_in.check().ok(),
+        Frame::Lookup(_) => None,
+    })
+}
+
+#[test]
+fn what_is_asked_has_every_side_that_there_is() {
+    let mut counts: BTreeMap<(u8, u8), usize> = BTreeMap::new();
+    for row in asked().flat_map(|records| roll(&records)) {
+        *counts.entry((row.ending.kind(), row.side.number())).or_default() += 1;
+    }
+    println!("rows by kind and side: {counts:?}");
+    let all = [(1, 1), (1, 2), (1, 3), (2, 1), (2, 2), (2, 3), (3, 1), (3, 2), (3, 3), (4, 0)];
+    assert!(counts.keys().copied().eq(all) && counts.values().all(|count| *count > 300), "{counts:?}");
+}
+
+/// The class of SHEETS 4.9.
+fn class(ending: Ending) -> &'static str {
+    match ending {
+        Ending::Track(_) | Ending::Meeting(_) => "track",
+        Ending::Wall(_) => "wall",
+        Ending::Edge => "edge",
+    }
+}
+
+#[test]
+fn what_is_asked_has_causes_with_different_sides_at_one_time() {
+    // By class and side of the cause that is named, and of one that is not.
+    let mut counts: BTreeMap<[(&str, Side); 2], usize> = BTreeMap::new();
+    let mut rows_with_another = 0;
+    for records in asked() {
+        let ends = ends(&roll(&records));
+        for tip in &records.tracks {
+            let causes = end(&records, tip, &ends).causes.into_iter().map(|(ending, side)| (class(ending), side));
+            let causes: Vec<_> = causes.collect();
+            let others = causes[1..].iter().filter(|(_, side)| *side != causes[0].1);
+            rows_with_another += usize::from(others.clone().count() > 0);
+            others.for_each(|other| *counts.entry([causes[0], *other]).or_default() += 1);
+        }
+    }
+    println!("rows with another side to choose: {rows_with_another}; causes: {counts:?}");
+    let (left, right, along) = (Side::Left, Side::Right, Side::Along);
+    let different = [(left, right), (left, along), (right, left), (right, along), (along, left), (along, right)];
+    let pairs = |named, other| different.map(|(one, another)| [(named, one), (other, another)]);
+    // Where a tip comes along a track to its start, no wall is: a start on a wall is refused.
+    let with_wall = pairs("track", "wall").into_iter().filter(|[(_, side), _]| *side != along);
+    let expected = pairs("track", "track").into_iter().chain(pairs("wall", "wall")).chain(with_wall);
+    for pair in expected {
+        assert!(counts.get(&pair).is_some_and(|count| *count > 20), "{pair:?} in {counts:?}");
+    }
 }
 
 #[test]

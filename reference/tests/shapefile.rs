@@ -3,7 +3,7 @@
 use reference::chosen::{document, late, track, wall};
 use reference::frames::{self, Frame};
 use reference::made_up;
-use reference::roll::{roll, Ending, Row};
+use reference::roll::{roll, Ending, Row, Side};
 use reference::shapefile::{bounds, files, index_file, main_file, shapes, Bounds, Layer, Point, Shape};
 use reference::sheet::{listing, read, Command, Records};
 
@@ -268,7 +268,7 @@ fn null_shapes_occur_often_and_everywhere() {
 #[test]
 fn every_number_of_64ths_is_exact() {
     let time = reference::fraction::Fraction::ZERO;
-    let row = |n| Row { id: 0, ending: Ending::Edge, time, x: n, y: 262080 - n };
+    let row = |n| Row { id: 0, ending: Ending::Edge, time, x: n, y: 262080 - n, side: Side::NoSide };
     let all: Vec<u32> = (0..=262080).collect();
     for part in all.chunks(256) {
         let rows: Vec<Row> = part.iter().copied().map(row).collect();

@@ -1,5 +1,7 @@
 //! What the colours and marks of a picture mean.
 
+use crate::sides;
+
 /// The width of the legend in pixels.
 pub const WIDTH: i128 = 200;
 
@@ -14,6 +16,12 @@ pub const LISTED: &str = "#f5d76e";
 pub const RING: &str = "#a00";
 pub const GRID: &str = "#aaa";
 
+/// The head of an arrow, of the width of a wall's line, and the attribute that puts it at the end of a line.
+pub const ARROWHEAD: &str =
+    "<defs><marker id=\"b\" orient=\"auto\" overflow=\"visible\"><path d=\"M-3 -1.5L0 0L-3 1.5\" fill=\"none\" \
+    stroke=\"#000\" stroke-width=\"0.4\"/></marker></defs>\n";
+pub const AT_B: &str = "marker-end=\"url(#b)\"";
+
 const KINDS: [&str; 4] =
     ["1 ends at an earlier trace", "2 meets a tip, both end", "3 ends at a wall", "4 ends at the edge"];
 
@@ -24,15 +32,18 @@ const LINE: usize = 20;
 pub struct Legend(Vec<String>);
 
 impl Legend {
-    /// For a grid of the figure whose cells are shaded, for late starts, and for a cell listing's lines, where there are any.
-    pub fn new(shaded: Option<u64>, late: bool, listed: &[String]) -> Legend {
+    /// For a grid of the figure whose cells are shaded, for late starts, sides, and a cell listing's lines, where there are any.
+    pub fn new(shaded: Option<u64>, late: bool, sides: bool, listed: &[String]) -> Legend {
         let kinds = COLOURS.iter().zip(KINDS);
         let mut lines: Vec<String> = kinds.map(|(colour, words)| entry(&end(colour), words)).collect();
         lines.push(entry(&started(), "trace, id at its start"));
         if late {
             lines.push(entry(&hollow(), "late start, id and time"));
         }
-        lines.push(entry(&line("#000", 3), "wall, id after w"));
+        if sides {
+            lines.push(entry(&letters(), "from left, right, along"));
+        }
+        lines.push(entry(&wall(), "wall from a to b, id after w"));
         lines.push(entry(&dashed(), "edge of the sheet"));
         lines.push(entry(&area(OUTSIDE, OUTSIDE), "outside the sheet"));
         if let Some(figure) = shaded {
@@ -76,6 +87,14 @@ fn started() -> String {
 
 fn hollow() -> String {
     line("#555", 1) + "<circle cx=\"10\" cy=\"0\" r=\"5\" fill=\"#fff\" stroke=\"#555\" stroke-width=\"1.2\"/>"
+}
+
+fn letters() -> String {
+    format!("<text x=\"17\" y=\"3\" fill=\"{}\" font-size=\"8\" text-anchor=\"middle\">L R A</text>", sides::COLOUR)
+}
+
+fn wall() -> String {
+    format!("<g {AT_B}>{}</g>", line("#000", 3))
 }
 
 fn area(fill: &str, border: &str) -> String {

@@ -10,6 +10,8 @@ pub mod listed;
 pub mod listing;
 pub mod picture;
 pub mod roll;
+mod room;
 pub mod sheet;
+mod sides;
 pub mod trace;
 pub mod view;

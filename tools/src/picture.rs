@@ -5,11 +5,13 @@ use crate::decimals::Decimals;
 use crate::ids;
 use crate::legend::{self, Legend};
 use crate::listed::Listed;
+use crate::room::Room;
+use crate::sides;
 use crate::trace::Trace;
 use crate::view::{in_64ths, View};
 use reference::cells::{side, Cell};
 use reference::fraction::Fraction;
-use reference::roll::Ending;
+use reference::roll::{Ending, Side};
 use reference::sheet::Wall;
 use std::collections::BTreeSet;
 
@@ -43,7 +45,8 @@ pub fn draw(walls: &[Wall], traces: &[Trace], options: Options) -> String {
     let (width, height) = view.size();
     let (wide, high) = (width.pixels(), height.pixels());
     let lines = listed.as_ref().map_or_else(Vec::new, Listed::lines);
-    let legend = Legend::new(options.grid, traces.iter().any(Trace::is_late), &lines);
+    let sides = traces.iter().any(|trace| trace.row.side != Side::NoSide);
+    let legend = Legend::new(options.grid, traces.iter().any(Trace::is_late), sides, &lines);
     let total = (width + Fraction::whole(legend::WIDTH)).pixels();
     let total_high = height.max(Fraction::whole(legend.height() as i128)).pixels();
     let mut svg = format!(
@@ -64,7 +67,9 @@ pub fn draw(walls: &[Wall], traces: &[Trace], options: Options) -> String {
     svg += &listed.as_ref().map_or_else(String::new, |listed| listed.rings(&view));
     svg += "</g>\n</svg>\n";
     svg += &format!("<rect width=\"{wide}\" height=\"{high}\" fill=\"none\" stroke=\"#ccc\"/>\n");
-    svg += &ids::draw(walls, traces, &view);
+    let mut room = Room::new(walls, traces, &view);
+    svg += &ids::draw(walls, traces, &mut room);
+    svg += &sides::draw(traces, &mut room);
     svg += &notes(&options.notes, &view);
     svg += &legend.draw(&wide);
     svg + "</svg>\n"
@@ -127,8 +132,10 @@ fn edge(view: &View) -> String {
     sheet(view, &style)
 }
 
+/// The walls with an arrowhead at b, since a side is seen from a to b (SHEETS 4.14).
 fn wall_lines(walls: &[Wall], view: &View) -> String {
-    let mut text = format!("<g stroke=\"#000\" stroke-width=\"{}\">\n", view.tenths(30));
+    let mut text = legend::ARROWHEAD.to_string();
+    text += &format!("<g stroke=\"#000\" stroke-width=\"{}\" {}>\n", view.tenths(30), legend::AT_B);
     for Wall { ax, ay, bx, by, .. } in walls {
         text += &format!("<line x1=\"{ax}\" y1=\"{ay}\" x2=\"{bx}\" y2=\"{by}\"/>\n");
     }
@@ -203,8 +210,14 @@ fn ending(trace: &Trace) -> String {
         Ending::Wall(id) => format!("wall {id}"),
         Ending::Edge => "the edge".to_string(),
     };
+    let side = match row.side {
+        Side::NoSide => "",
+        Side::Left => " from its left",
+        Side::Right => " from its right",
+        Side::Along => " along its line",
+    };
     let (num, den) = row.time_in_lowest_terms();
-    format!("track {} ends at {cause}, time {num}/{den}", row.id)
+    format!("track {} ends at {cause}{side}, time {num}/{den}", row.id)
 }
 
 /// The notes that stand within the view.

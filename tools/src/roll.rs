@@ -1,7 +1,7 @@
 //! What the program `roll` prints, read back.
 
 use reference::fraction::Fraction;
-use reference::roll::{Ending, Row};
+use reference::roll::{Ending, Row, Side};
 use std::str::FromStr;
 
 /// The cells entered under g = 8, and the rows.
@@ -34,12 +34,13 @@ pub fn parse(text: &str) -> Result<Roll, String> {
 
 fn row(line: &str) -> Option<Row> {
     let words: Vec<&str> = line.split(' ').collect();
-    let [id, kind, partner, time, x, y] = words[..] else { return None };
+    let [id, kind, partner, time, x, y, side] = words[..] else { return None };
     let (num, den) = time.split_once('/')?;
     let (num, den): (u64, u64) = (field(num)?, field(den)?);
     let ending = ending(field(kind)?, field(partner)?)?;
     let time = (den != 0).then(|| Fraction::new(num, den))?;
-    Some(Row { id: field(id)?, ending, time, x: field(x)?, y: field(y)? })
+    let side = self::side(ending, field(side)?)?;
+    Some(Row { id: field(id)?, ending, time, x: field(x)?, y: field(y)?, side })
 }
 
 /// The ending of a kind and a partner, which the edge has not.
@@ -51,6 +52,12 @@ fn ending(kind: u8, partner: u16) -> Option<Ending> {
         (4, 0) => Some(Ending::Edge),
         _ => None,
     }
+}
+
+/// The side with that number; the edge has none, and nothing else has none (SHEETS 4.14).
+fn side(ending: Ending, number: u8) -> Option<Side> {
+    let side = Side::ALL.into_iter().find(|side| side.number() == number)?;
+    ((ending == Ending::Edge) == (side == Side::NoSide)).then_some(side)
 }
 
 fn field<T: FromStr>(word: &str) -> Option<T> {

@@ -36,7 +36,7 @@ fn ends_of_a() {
     assert!(svg.contains("<line x1=\"200\" y1=\"50\" x2=\"200\" y2=\"4095\"/>"));
     assert!(svg.contains("<circle cx=\"200\" cy=\"100\""));
     assert!(svg.contains("<circle cx=\"200\" cy=\"4095\""));
-    assert!(svg.contains("track 1 ends at trace 2, time 10/1"));
+    assert!(svg.contains("track 1 ends at trace 2 from its left, time 10/1"));
     assert!(svg.contains("track 2 ends at the edge, time 809/2"));
 }
 
@@ -59,6 +59,34 @@ fn late_starts_are_hollow_with_their_times() {
     assert!(svg.contains(">1 from 20</text>") && svg.contains(">4 from 5</text>") && svg.contains(">2</text>"));
     assert!(svg.contains("track 1 ends at the edge, time 20/1") && svg.contains(">late start, id and time</text>"));
     assert!(!picture("A", &[]).unwrap().contains("late start"));
+}
+
+/// The letters of the sides in a picture, in the roll's order.
+fn letters(svg: &str) -> String {
+    let group = svg.split("font-size=\"8\" text-anchor=\"middle\">\n").nth(1).unwrap().split("</g>").next().unwrap();
+    group.lines().map(|line| line.split(['>', '<']).nth(2).unwrap()).collect()
+}
+
+#[test]
+fn sides_are_letters_at_the_ends() {
+    let drawn = |name| letters(&picture(name, &[]).unwrap());
+    assert_eq!(["B", "E", "H1", "J"].map(drawn), ["LR", "LLLL", "L", "R"]);
+    // A tip that ends as it opens has no trace for a letter to stand beside, and the edge has no side.
+    assert_eq!(["behind", "opening", "late", "I2"].map(drawn), ["AALL", "LRL", "LRR", ""]);
+    let legend = ">from left, right, along</text>";
+    assert!(picture("E", &[]).unwrap().contains(legend) && !picture("I2", &[]).unwrap().contains(legend));
+    // Of the 64 tips that meet in one point only the outermost have room.
+    assert_eq!(drawn("D"), "LR");
+}
+
+#[test]
+fn sides_are_told_where_the_pointer_rests() {
+    let tells = |name, words| assert!(picture(name, &[]).unwrap().contains(words), "{name}: {words}");
+    tells("B", "track 1 ends at tip 2 from its left, time 10/1");
+    tells("B", "track 2 ends at tip 1 from its right, time 10/1");
+    tells("F", "track 2 ends at wall 1 from its right, time 5/1");
+    tells("F", "track 1 ends at the edge, time 799/2");
+    tells("G", "track 1 ends at trace 2 along its line, time 10/1");
 }
 
 #[test]
@@ -105,8 +133,8 @@ fn a_cell_has_a_ring_at_each_entry_and_room_for_its_listing() {
     let svg = picture("A", &["--grid", "1", "--cell", "0", "0", "--view", "0", "0", "4000", "0"]).unwrap();
     assert!(svg.contains("<title>1. track 1 enters at 0/1</title>") && svg.contains("cx=\"100\" cy=\"100\" r="));
     assert!(svg.contains("<title>2. track 2 enters at 0/1</title>"));
-    // The drawing is 200 high, the legend 9 lines and those of the cell and its two tracks.
-    assert!(svg.starts_with("<svg xmlns=\"http://www.w3.org/2000/svg\" width=\"840\" height=\"260\""));
+    // The drawing is 200 high, the legend 10 lines and those of the cell and its two tracks.
+    assert!(svg.starts_with("<svg xmlns=\"http://www.w3.org/2000/svg\" width=\"840\" height=\"280\""));
 }
 
 #[test]
@@ -154,9 +182,13 @@ fn texts_that_are_no_rolls_are_errors() {
         ("", "line 1: not the output of roll"),
         ("tracks 1 cells x\n", "line 1: not the output of roll"),
         ("tracks 1 cells 1\n", "0 rows for 1 tracks"),
-        ("tracks 1 cells 1\n1 5 0 1/1 0 0\n", "line 2: not a row of a roll"),
-        ("tracks 1 cells 1\n1 4 0 1/0 0 0\n", "line 2: not a row of a roll"),
-        ("tracks 1 cells 1\n1 4 7 1/1 0 0\n", "line 2: not a row of a roll"),
+        ("tracks 1 cells 1\n1 5 0 1/1 0 0 1\n", "line 2: not a row of a roll"),
+        ("tracks 1 cells 1\n1 4 0 1/0 0 0 0\n", "line 2: not a row of a roll"),
+        ("tracks 1 cells 1\n1 4 7 1/1 0 0 0\n", "line 2: not a row of a roll"),
+        ("tracks 1 cells 1\n1 4 0 1/1 0 0\n", "line 2: not a row of a roll"),
+        ("tracks 1 cells 1\n1 4 0 1/1 0 0 1\n", "line 2: not a row of a roll"),
+        ("tracks 1 cells 1\n1 3 7 1/1 0 0 0\n", "line 2: not a row of a roll"),
+        ("tracks 1 cells 1\n1 3 7 1/1 0 0 4\n", "line 2: not a row of a roll"),
     ];
     for (text, wrong) in cases {
         assert_eq!(roll::parse(text).err().as_deref(), Some(wrong));

@@ -1,7 +1,7 @@
 //! The made-up inputs: mostly small sheets on few lines, where equal times, meetings, wall ends and borders are common.
 
 use reference::made_up::entering::{entering, entering_late};
-use reference::made_up::{self, late, shapes, BORDERS, COARSE, GROUNDS, TINY};
+use reference::made_up::{self, late, shapes, sides, BORDERS, COARSE, GROUNDS, TINY};
 use reference::rng::Rng;
 use reference::sheet::{listing, Command, Records, Track, Wall};
 
@@ -13,11 +13,13 @@ pub fn undamaged(rng: &mut Rng) -> Vec<u8> {
     }
 }
 
-/// Tips that open later: on traces, on one line with others, together with them, at the edge; and traces without length.
+/// Tips that open later: on traces, on one line with others, together with them, at the edge; traces without length; and causes of
+/// different sides at one time.
 fn with_start_times(rng: &mut Rng) -> Vec<u8> {
     match rng.below(20) {
         0 if rng.one_in(50) => late::large(rng),
-        0..=11 => rng.pick(&late::MAKERS)(rng),
+        0..=9 => rng.pick(&late::MAKERS)(rng),
+        10 | 11 => rng.pick(&sides::MAKERS)(rng),
         12 | 13 => rng.pick(&shapes::MAKERS)(rng),
         14..=16 => entering_late(rng).sheet,
         17 => late::nearly_accepted(rng),

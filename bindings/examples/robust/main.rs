@@ -21,8 +21,9 @@ use trial::{work_out, Trial};
 struct Tally {
     differences: u64,
     accepted: u64,
-    /// Rows of the rolls, by kind of ending.
+    /// Rows of the rolls, by kind of ending, and by side.
     kinds: [u64; 5],
+    sides: [u64; 4],
     /// Calls, by 0 or the refusal's number.
     answers: [u64; 15],
 }
@@ -32,6 +33,7 @@ impl Tally {
         self.differences += other.differences;
         self.accepted += other.accepted;
         self.kinds.iter_mut().zip(other.kinds).for_each(|(sum, more)| *sum += more);
+        self.sides.iter_mut().zip(other.sides).for_each(|(sum, more)| *sum += more);
         self.answers.iter_mut().zip(other.answers).for_each(|(sum, more)| *sum += more);
     }
 }
@@ -56,7 +58,10 @@ fn compare(rng: &mut Rng, input: &[u8], memory: &mut Memory, tally: &mut Tally) 
     let sheet = work_out(input);
     if let Ok(sheet) = &sheet {
         tally.accepted += 1;
-        sheet.rows.iter().for_each(|row| tally.kinds[usize::from(row.ending.kind())] += 1);
+        for row in &sheet.rows {
+            tally.kinds[usize::from(row.ending.kind())] += 1;
+            tally.sides[usize::from(row.side.number())] += 1;
+        }
     }
     let Memory { input: lent, out, numbers, lists } = memory;
     let lent = lent.lend_copy(input, rng.pick(&SIDES));
@@ -121,7 +126,8 @@ fn main() -> ExitCode {
     });
     let seconds = begun.elapsed().as_secs_f64();
 
-    println!("{} inputs accepted; rows of kinds 1 to 4: {:?}", tally.accepted, &tally.kinds[1..]);
+    let Tally { accepted, kinds, sides, .. } = tally;
+    println!("{accepted} inputs accepted; rows of kinds 1 to 4: {:?}; of sides 0 to 3: {sides:?}", &kinds[1..]);
     println!("calls answered 0 to 14: {:?}", tally.answers);
     let rate = count as f64 / seconds;
     println!("{count} inputs, {} differences, {seconds:.1} s, {rate:.0} a second", tally.differences);

@@ -1,5 +1,5 @@
 //! Chosen sheets: the starred ones, each line of the refusal table at its limits, endings that the
-//! rule has to tell apart, start times in all of these, and shapes.
+//! rule has to tell apart, start times in all of these, shapes, and sides.
 
 pub mod document;
 pub mod endings;
@@ -10,6 +10,7 @@ pub mod late;
 pub mod limits;
 pub mod names;
 pub mod shapes;
+pub mod sides;
 pub mod together;
 
 use crate::sheet::{Command, Track, Wall};
@@ -42,10 +43,10 @@ pub fn walls(count: u16) -> Vec<Command> {
 
 /// Every chosen sheet in bytes.
 pub fn all() -> Vec<Vec<u8>> {
-    [without_start_times(), late::sheets(), shapes::sheets()].concat()
+    [without_start_times(), late::sheets(), shapes::sheets(), sides::sheets()].concat()
 }
 
-/// Those that are about neither 03 nor shapes.
+/// Those that are about neither 03 nor shapes nor sides.
 pub fn without_start_times() -> Vec<Vec<u8>> {
     let document = document::sheets().into_iter().map(|(_, sheet)| sheet);
     document
