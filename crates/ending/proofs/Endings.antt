@@ -1,6 +1,6 @@
 -- How a cause ends a tip, and the row that it gives. Main theorems: `ending-is`, `row-is`.
 use mathlib.Core.Logic.{_⊎_, inl, inr}
-use mathlib.Core.Path.{_≡_, refl, sym, ap, _∙_}
+use mathlib.Core.Path.{_≡_, refl, sym, ap, ap₂, _∙_}
 use Prim.Native.Nat.{ℕ, zero, suc}
 use native.Mathlib.Omega.{arith}
 use Rattle.fraction.specs.Time.{Time, _≤ᵗ_, _<ᵗ_, asTime}
@@ -57,5 +57,5 @@ ending-is S a {c} t (leaves x y e) = e ∙ left S a (asTime (c .at)) (asTime (c 
 
 -- ---- the row of a cause
 
-pub row-is : (S : Listing) (a : Track) {c : Cause} {e : Ending} → Stands S a c → EndingOf c e → rowAt a (asTime (c .at)) e ≡ rowOf a (candOf S c)
-row-is S a {c} t g = ap (λ (z : Ending). rowAt a (asTime (c .at)) z) (ending-is S a t g)
+pub row-is : (S : Listing) (a : Track) {c : Cause} {e : Ending} → Stands S a c → EndingOf c e → rowAt a (asTime (c .at)) e (c .side) ≡ rowOf a (candOf S c)
+row-is S a {c} t g = ap₂ (rowAt a (asTime (c .at))) (ending-is S a t g) (t .sided)

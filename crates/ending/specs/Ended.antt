@@ -9,6 +9,7 @@ use Rattle.sheet.specs.Listing.{Listing}
 use Rattle.rule.specs.declared.Row.{Row}
 use Rattle.rule.specs.declared.Ending.{Ending}
 use Rattle.rule.specs.declared.Ending.the-variants.{ByTrack, Meeting, ByWall, Edge}
+use Rattle.rule.specs.declared.Side.the-variants.{NoSide}
 use Rattle.rule.specs.Motion.{Inside}
 use Rattle.rule.specs.Selection.{rollOf}
 use Rattle.cause.specs.declared.Cause.{Cause}
@@ -30,4 +31,4 @@ pub record Endable (a : Track) (c : Cause) : Type 0 where
 
 -- the row at place k of the roll
 abbrev pub nextRow : Listing → ℕ → Row
-nextRow S k = getD (rollOf S) k (record { id = 0; at = record { num = 0; den = 0 }; x = 0; y = 0; ending = Edge })
+nextRow S k = getD (rollOf S) k (record { id = 0; at = record { num = 0; den = 0 }; x = 0; y = 0; ending = Edge; side = NoSide })

@@ -31,4 +31,4 @@ finish ts i = withEnd ts i (low (endOf (tipIn ts i)))
 -- its end is noted, and its row is at place k
 pub record Finished (S : Listing) (i k : ℕ) (e : Ending) (ts : List Tip) (out : List ℕ) (ts′ : List Tip) (out′ : List ℕ) : Type 0 where
   pub noted : ts′ ≡ finish ts i
-  pub written : out′ ≡ sets out (rowWidth * k) (rowBytes (rowAt (tipAt S i) (endOf (tipIn ts i)) e))
+  pub written : out′ ≡ sets out (rowWidth * k) (rowBytes (rowAt (tipAt S i) (endOf (tipIn ts i)) e (tipIn ts i .best .side)))

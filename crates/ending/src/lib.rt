@@ -50,7 +50,8 @@ pub fn end_tip(
     ensures { λ r. ⌜ (r ≡ rows + 1) × Finished (sheetIn (now (records .entry))) i rows ending (tipsIn (now (tips .entry))) (now (out .entry)) (tipsIn (now (tips .exit))) (now (out .exit)) ⌝ }
 {
     let a = records::track_at(records, i);
-    let row = row::row_of(a, tips::end_of(tips, i), ending);
+    let side = tips::side_of(tips, i);
+    let row = row::row_of(a, tips::end_of(tips, i), ending, side);
     row::put_row(out, row::WIDTH * rows, row);
     tips::put_end(tips, i, row.at);
     rows + 1

@@ -15,7 +15,7 @@ use Rattle.rule.specs.RowBytes.{rowBytes, rowWidth}
 use Rattle.row.specs.RowAt.{rowAt}
 use Rattle.cause.specs.Cause.{tipAt}
 use Rattle.ending.specs.Ended.{EndingOf, strikes, leaves, nextRow}
-use Rattle.ending.proofs.Endings.{ending-is}
+use Rattle.ending.proofs.Endings.{row-is}
 use Rattle.cells.specs.Grid.{Figure, g1, g2, g4, g8, g16, g32, side}
 use Rattle.event_queue.specs.declared.Event.{Event}
 use Rattle.event_queue.specs.declared.Event.the-variants as event
@@ -111,10 +111,8 @@ module _ {S : Listing} {g k : ℕ} {t q m ms : List ℕ} (h : Swept (Going S g k
         may-end = record { tip-in = event-here (h .holds) first .0; endable = ended-endable (h .holds) first late counts; more = ended-room (h .holds) first late counts }
 
         module _ {ending : Ending} (kind : EndingOf (tipIn (tipsIn t) i .best) ending) where
-          row-is : rowAt (tipAt S i) (endOf (tipIn (tipsIn t) i)) ending ≡ nextRow S k
-          row-is =
-              ap (rowAt (tipAt S i) (endOf (tipIn (tipsIn t) i))) (ending-is S (tipAt S i) (event-stands (h .holds) first) kind)
-              ∙ sym (ended-row (h .holds) first late counts)
+          is-next : rowAt (tipAt S i) (endOf (tipIn (tipsIn t) i)) ending (tipIn (tipsIn t) i .best .side) ≡ nextRow S k
+          is-next = row-is S (tipAt S i) (event-stands (h .holds) first) kind ∙ sym (ended-row (h .holds) first late counts)
 
           module _ {k′ : ℕ} {out out′ : List ℕ} (t′ q′ : List ℕ) (n : k′ ≡ k + 1) (f : Finished S i k ending (tipsIn t) out (tipsIn t′) out′) (z : slots q′ ≡ slots q₁) where
             onward : Onward S g k w k′ (sweepIn t′ q′ m ms)
@@ -125,7 +123,7 @@ module _ {S : Listing} {g k : ℕ} {t q m ms : List ℕ} (h : Swept (Going S g k
             turn-ended : tips.Room t′ → Queue q′ → Swept (Turned S g k w (Rows k′)) t′ q′ m ms × Wrote S k out (Rows k′) out′
             turn-ended room queue = (
               record { tips-room = room; queue = queue; marks-room = h .marks-room; linked = h .linked; holds = happened onward },
-              one-row (ap Rows n) (f .written ∙ ap (λ (r : Row). sets out (rowWidth * k) (rowBytes r)) row-is),
+              one-row (ap Rows n) (f .written ∙ ap (λ (r : Row). sets out (rowWidth * k) (rowBytes r)) is-next),
             )
 
       module _ {x : ℕ} (c : e ≡ event.Wall x) where
