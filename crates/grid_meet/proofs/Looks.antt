@@ -71,8 +71,8 @@ same-cause {b = b} {k} {c = c} {r} o n = go (o .touch) (o .taken)
   where
     go : (t : Touch) → Taken b k t c r → r ≡ c
     go Nowhere e = e
-    go (Hit u s) (inl (e, _)) = e
-    go (Hit u s) (inr (e, _)) = absurd (n (ap (λ (d : Cause). d .class) e) (ap (λ (d : Cause). d .who) e))
+    go (Hit u s f) (inl (e, _)) = e
+    go (Hit u s f) (inr (e, _)) = absurd (n (ap (λ (d : Cause). d .class) e) (ap (λ (d : Cause). d .who) e))
 
 module _ {S : Listing} {side i j : ℕ} {ts ts′ : List Tip} {s : Slots} (m : MayNotice S side i j ts s) (r : tipIn ts j .ended ≡ 0) (o : Offered S j i ts ts′) where
   new-tip : tipIn ts′ j ≡ record { best = o .cause; base = tipIn ts j .base; ended = tipIn ts j .ended; cell = tipIn ts j .cell }

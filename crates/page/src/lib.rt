@@ -16,7 +16,7 @@ use row::Stored;
 use rule::Row;
 use sheet::Answer;
 
-// Room for every answer: the head, and a line for each of 256 rows, have 37,687 bytes at most.
+// Room for every answer: the head, and a line for each of 256 rows, have 38,199 bytes at most.
 pub const ANSWER_ROOM: usize = 40960;
 
 // Where a text ends that was written at a place.

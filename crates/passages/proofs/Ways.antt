@@ -14,6 +14,7 @@ use Rattle.sheet.specs.HandedIn.{noTrack, handedIn}
 use Rattle.sheet.specs.Listing.{_∈_}
 use Rattle.sheet.proofs.Lists.{mem-at, at-mem, pairs-at}
 use Rattle.rule.specs.declared.Row.{Row}
+use Rattle.rule.specs.declared.Side.the-variants.{NoSide}
 use Rattle.rule.specs.declared.Ending.the-variants.{Edge}
 use Rattle.rule.specs.RowBytes.{rowWidth, rollBytes}
 use Rattle.rule.specs.Rows.{MeetsRows}
@@ -23,7 +24,7 @@ use Rattle.rule.proofs.RowBytes.{roll-bytes-length}
 use Rattle.rule.proofs.Starts.{one-id}
 use Rattle.rule.proofs.Widths.{roll-fits}
 use Rattle.row.specs.declared.Stored.the-variants.{Found, Nothing}
-use Rattle.row.specs.Stored.{isKind, rowFrom, rowIn}
+use Rattle.row.specs.Stored.{holdsRow, rowFrom, rowIn}
 use Rattle.row.proofs.ReadBack.{row-back}
 use Rattle.records.specs.Records.{Handed}
 use Rattle.plain_run.proofs.Outcome.{tracks-count}
@@ -42,7 +43,7 @@ none-more P k f g i h x = go (ℕ-discrete i k)
     go (no e) = f i (omega arith) x
 
 abbrev noRow : Row
-noRow = record { id = 0; at = record { num = 0; den = 1 }; x = 0; y = 0; ending = Edge }
+noRow = record { id = 0; at = record { num = 0; den = 1 }; x = 0; y = 0; ending = Edge; side = NoSide }
 
 -- the i-th track, and the k-th row as it is read
 abbrev tip : List Track → ℕ → Track
@@ -63,7 +64,7 @@ ways-first e = record { some = omega arith; long = e; each = λ d i k h. absurd 
 -- a row that is found is the one whose bytes stand there
 found-is : (rows : List ℕ) (k : ℕ) {r : Row} → rowIn rows k ≡ Found r → read rows k ≡ r
 unfolding rowIn
-found-is rows k {r} e = go (ltb k (length rows / rowWidth)) (isKind (getD rows (rowWidth * k + 2) 0)) e
+found-is rows k {r} e = go (ltb k (length rows / rowWidth)) (holdsRow rows (rowWidth * k)) e
   where
     go : (a b : Bool) → cond a (cond b (Found (read rows k)) Nothing) Nothing ≡ Found r → read rows k ≡ r
     go true true h = cc

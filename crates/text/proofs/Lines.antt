@@ -8,9 +8,10 @@ use lib.ListN.{length, take, getD, set, length-append, length-set, length-take}
 use lib.Seq.{length-take-le, take-suc-set, take-suc, take-all}
 use Rattle.rule.specs.declared.Row.{Row}
 use Rattle.rule.specs.RowBytes.{kindOf, partnerOf}
+use Rattle.rule.specs.Side.{sideNumber}
 use Rattle.text.specs.declared.Draft.{Draft}
 use Rattle.text.specs.Lines.{decimal, field, lineOf, headOf, refusedOf, stillOf, tracksWord, cellsWord, refusedWord, runningWord}
-use Rattle.text.specs.Held.{textIn, Holds, Room}
+use Rattle.text.specs.Held.{draftLength, textIn, Holds, Room}
 use Rattle.text.proofs.Decimal.{decimal-one, decimal-more, decimal-short}
 
 -- the length of a line's text
@@ -28,7 +29,7 @@ pushed line b r =
 
 module _ {a : List ℕ} {line : Draft} (h : Holds a line) where
   -- room behind a known text
-  pub room : (n : ℕ) → length a + n ≤ 160 → Room line n
+  pub room : (n : ℕ) → length a + n ≤ draftLength → Room line n
   room n k = record { sized = h .sized; fit = omega (arith, h .long) }
 
   -- a piece behind a known text
@@ -107,23 +108,23 @@ module _ {line : Draft} (v mark : ℕ) (room-for : Room line 21) (h : v < 184467
 
 -- ---- lines
 
-pub seven :
-    (r : Row) {k q : ℕ} {l0 l1 l2 l3 l4 l5 l6 l7 : Draft}
-    → k ≡ kindOf (r .ending) → q ≡ partnerOf (r .ending) → Holds [] l0
+pub eight :
+    (r : Row) {k q n : ℕ} {l0 l1 l2 l3 l4 l5 l6 l7 l8 : Draft}
+    → k ≡ kindOf (r .ending) → q ≡ partnerOf (r .ending) → n ≡ sideNumber (r .side) → Holds [] l0
     → Holds (textIn l0 ++ field (r .id) 32) l1 → Holds (textIn l1 ++ field k 32) l2 → Holds (textIn l2 ++ field q 32) l3
     → Holds (textIn l3 ++ field (r .at .num) 47) l4 → Holds (textIn l4 ++ field (r .at .den) 32) l5
-    → Holds (textIn l5 ++ field (r .x) 32) l6 → Holds (textIn l6 ++ field (r .y) 10) l7
-    → Holds (lineOf r) l7
+    → Holds (textIn l5 ++ field (r .x) 32) l6 → Holds (textIn l6 ++ field (r .y) 32) l7
+    → Holds (textIn l7 ++ field n 10) l8 → Holds (lineOf r) l8
 unfolding lineOf
-seven r hk hq h0 h1 h2 h3 h4 h5 h6 h7 =
+eight r hk hq hn h0 h1 h2 h3 h4 h5 h6 h7 h8 =
     let g1 = behind h0 (field (r .id) 32) h1 in
     let g2 = behind g1 (field (kindOf (r .ending)) 32) (rw hk at h2) in
     let g3 = behind g2 (field (partnerOf (r .ending)) 32) (rw hq at h3) in
     let g4 = behind g3 (field (r .at .num) 47) h4 in
     let g5 = behind g4 (field (r .at .den) 32) h5 in
     let g6 = behind g5 (field (r .x) 32) h6 in
-    let g7 = behind g6 (field (r .y) 10) h7 in
-    g7
+    let g7 = behind g6 (field (r .y) 32) h7 in
+    behind g7 (field (sideNumber (r .side)) 10) (rw hn at h8)
 
 pub head-done :
     (tracks cells : ℕ) {l0 l1 l2 l3 l4 : Draft} → Holds [] l0 → Holds (textIn l0 ++ tracksWord) l1 → Holds (textIn l1 ++ field tracks 32) l2

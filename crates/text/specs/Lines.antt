@@ -5,6 +5,7 @@ use Prim.Native.Nat.{ℕ, zero, suc, _+_, _/_, _%_}
 use lib.Dec.{ltb}
 use Rattle.rule.specs.declared.Row.{Row}
 use Rattle.rule.specs.RowBytes.{kindOf, partnerOf}
+use Rattle.rule.specs.Side.{sideNumber}
 
 -- the decimal digits of v (SHEETS 9.3), which has at most f of them
 unfoldable pub digitsWithin : ℕ → ℕ → List ℕ
@@ -19,7 +20,7 @@ decimal v = digitsWithin (suc v) v
 unfoldable pub field : ℕ → ℕ → List ℕ
 field v mark = decimal v ++ (mark ∷ [])
 
--- a row's line (SHEETS 9.1), as `1 1 2 10/1 12800 6400`
+-- a row's line (SHEETS 9.1), as `1 1 2 10/1 12800 6400 1`
 unfoldable pub lineOf : Row → List ℕ
 lineOf r =
     field (r .id) 32 ++
@@ -28,7 +29,8 @@ lineOf r =
     field (r .at .num) 47 ++
     field (r .at .den) 32 ++
     field (r .x) 32 ++
-    field (r .y) 10
+    field (r .y) 32 ++
+    field (sideNumber (r .side)) 10
 
 -- `tracks ` (SHEETS 9.1)
 abbrev pub tracksWord : List ℕ
@@ -60,7 +62,7 @@ stillOf tracks = field tracks 32 ++ runningWord
 
 -- how many bytes a line has at most (`line-short` and its like in proofs/Lengths.antt): a row's, the head, a refusal's, that of the number still running
 abbrev pub longestLine : ℕ
-longestLine = 147
+longestLine = 149
 
 abbrev pub longestHead : ℕ
 longestHead = 55

@@ -9,9 +9,12 @@ use rule::Row;
 use sheet::Answer;
 use sheet::OUTPUT_TOO_SHORT;
 
-// A line while it is put together: none is longer than 160 bytes.
+// Room for every line: eight fields of at most 21 bytes.
+const DRAFT: usize = 168;
+
+// A line while it is put together.
 struct Draft {
-    bytes: [u8; 160],
+    bytes: [u8; DRAFT],
     length: usize,
 }
 
@@ -19,7 +22,7 @@ fn empty() -> Draft
     ensures { λ r. ⌜ Holds [] r ⌝ }
 {
     Draft {
-        bytes: [0; 160],
+        bytes: [0; DRAFT],
         length: 0,
     }
 }
@@ -72,18 +75,20 @@ fn word(line: Draft, s: &[u8]) -> Draft
     l
 }
 
-// id, kind, partner, time, x and y.
+// id, kind, partner, time, x, y and side.
 fn row_line(row: Row) -> Draft
     ensures { λ r. ⌜ Holds (lineOf row) r ⌝ }
 {
     let e = row.ending;
+    let from = row.side;
     let id = put_field(empty(), row.id as u64, b' ');
     let kind = put_field(id, row::kind_of(e) as u64, b' ');
     let partner = put_field(kind, row::partner_of(e) as u64, b' ');
     let num = put_field(partner, row.at.num, b'/');
     let den = put_field(num, row.at.den, b' ');
     let x = put_field(den, row.x as u64, b' ');
-    put_field(x, row.y as u64, b'\n')
+    let y = put_field(x, row.y as u64, b' ');
+    put_field(y, row::number_of(from) as u64, b'\n')
 }
 
 fn head_line(tracks: u64, cells: u64) -> Draft

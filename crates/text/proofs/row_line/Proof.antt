@@ -1,5 +1,5 @@
--- Seven fields of at most 21 bytes.
-use Rattle.text.proofs.Lines.{room, left-by-field, seven}
+-- Eight fields of at most 21 bytes.
+use Rattle.text.proofs.Lines.{room, less-room, left-by-field, eight}
 use borrow.Author.Needs.{needs}
 use native.Mathlib.Omega.{arith}
 use Rattle.text.proofs.row_line.Statement.{statement}
@@ -42,48 +42,76 @@ cast-put-field-4 : tie.Need-cast-put-field-4
 cast-put-field-4 c = search needs
 
 put-field-requires-6 : tie.Need-put-field-requires-6
-put-field-requires-6 c κs = search needs
+put-field-requires-6 c κs =
+    less-room 63 21
+    (left-by-field 63
+    (left-by-field 84
+    (left-by-field 105
+    (left-by-field 126
+    (left-by-field 147
+    (room (c .before .before .before .before .before .before .before .before .before .empty .ensures) 168 (omega arith))
+    (c .before .before .before .before .before .before .before .put-field .ensures))
+    (c .before .before .before .before .before .put-field2 .ensures))
+    (c .before .before .before .put-field3 .ensures))
+    (c .before .before .put-field4 .ensures))
+    (c .before .put-field5 .ensures)) (omega arith)
 
 cast-put-field-5 : tie.Need-cast-put-field-5
 cast-put-field-5 c = search needs
 
 put-field-requires-7 : tie.Need-put-field-requires-7
 put-field-requires-7 c κs =
-    let c0 = c .before .before .before .before .before .before .before .before .before .before .before in
-    let c1 = c .before .before .before .before .before .before .before .before .before in
-    let c2 = c .before .before .before .before .before .before .before in
-    let c3 = c .before .before .before .before .before in
-    let c4 = c .before .before .before .before in
-    let c5 = c .before .before .before in
+    less-room 42 21
+    (left-by-field 42
+    (left-by-field 63
+    (left-by-field 84
+    (left-by-field 105
+    (left-by-field 126
+    (left-by-field 147
+    (room (c .before .before .before .before .before .before .before .before .before .before .before .empty .ensures) 168 (omega arith))
+    (c .before .before .before .before .before .before .before .before .before .put-field .ensures))
+    (c .before .before .before .before .before .before .before .put-field2 .ensures))
+    (c .before .before .before .before .before .put-field3 .ensures))
+    (c .before .before .before .before .put-field4 .ensures))
+    (c .before .before .before .put-field5 .ensures))
+    (c .before .put-field6 .ensures)) (omega arith)
+
+number-of-requires : tie.Need-number-of-requires
+number-of-requires c κs = search needs
+
+cast-put-field-6 : tie.Need-cast-put-field-6
+cast-put-field-6 c = search needs
+
+put-field-requires-8 : tie.Need-put-field-requires-8
+put-field-requires-8 c κs =
     left-by-field 21
     (left-by-field 42
     (left-by-field 63
     (left-by-field 84
     (left-by-field 105
-    (left-by-field 126 (room (c0 .empty .ensures) 147 (omega arith)) (c1 .put-field .ensures))
-    (c2 .put-field2 .ensures))
-    (c3 .put-field3 .ensures))
-    (c4 .put-field4 .ensures))
-    (c5 .put-field5 .ensures))
-    (c .before .put-field6 .ensures)
+    (left-by-field 126
+    (left-by-field 147
+    (room (c .before .before .before .before .before .before .before .before .before .before .before .before .before .empty .ensures) 168 (omega arith))
+    (c .before .before .before .before .before .before .before .before .before .before .before .put-field .ensures))
+    (c .before .before .before .before .before .before .before .before .before .put-field2 .ensures))
+    (c .before .before .before .before .before .before .before .put-field3 .ensures))
+    (c .before .before .before .before .before .before .put-field4 .ensures))
+    (c .before .before .before .before .before .put-field5 .ensures))
+    (c .before .before .before .put-field6 .ensures))
+    (c .before .put-field7 .ensures)
 
 returns : tie.Need-returns
 returns c =
-    let c1 = c .before .before .before .before .before .before .before .before .before .before in
-    let c2 = c .before .before .before .before .before .before .before .before in
-    let c3 = c .before .before .before .before .before .before in
-    let c4 = c .before .before .before .before .before in
-    let c5 = c .before .before .before .before in
-    let c6 = c .before .before in
-    seven (c1 .before .before .before .args .row) (c .before .before .before .before .before .before .before .before .before .kind-of .ensures) (c .before .before .before .before .before .before .before .partner-of .ensures)
-    (c1 .before .before .empty .ensures)
-    (c1 .put-field .ensures .0)
-    (c2 .put-field2 .ensures .0)
-    (c3 .put-field3 .ensures .0)
-    (c4 .put-field4 .ensures .0)
-    (c5 .put-field5 .ensures .0)
-    (c6 .put-field6 .ensures .0)
-    (c .put-field7 .ensures .0)
+    eight (c .before .before .before .before .before .before .before .before .before .before .before .before .before .before .before .args .row) (c .before .before .before .before .before .before .before .before .before .before .before .kind-of .ensures) (c .before .before .before .before .before .before .before .before .before .partner-of .ensures) (c .before .number-of .ensures)
+    (c .before .before .before .before .before .before .before .before .before .before .before .before .before .before .empty .ensures)
+    (c .before .before .before .before .before .before .before .before .before .before .before .before .put-field .ensures .0)
+    (c .before .before .before .before .before .before .before .before .before .before .put-field2 .ensures .0)
+    (c .before .before .before .before .before .before .before .before .put-field3 .ensures .0)
+    (c .before .before .before .before .before .before .before .put-field4 .ensures .0)
+    (c .before .before .before .before .before .before .put-field5 .ensures .0)
+    (c .before .before .before .before .put-field6 .ensures .0)
+    (c .before .before .put-field7 .ensures .0)
+    (c .put-field8 .ensures .0)
 
 pub row-line-spec : {M : Type 1} → statement M
 row-line-spec =
@@ -104,4 +132,7 @@ row-line-spec =
     put-field-requires-6
     cast-put-field-5
     put-field-requires-7
+    number-of-requires
+    cast-put-field-6
+    put-field-requires-8
     returns)
