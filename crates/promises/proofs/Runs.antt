@@ -15,6 +15,7 @@ use Rattle.sheet.proofs.Lent.{Ends, said-given, put, gave}
 use Rattle.sheet.proofs.Lists.{mem-at, at-mem, perm-length}
 use Rattle.rule.specs.declared.Row.{Row}
 use Rattle.rule.specs.declared.Ending.the-variants.{Edge}
+use Rattle.rule.specs.declared.Side.the-variants.{NoSide}
 use Rattle.rule.specs.RowBytes.{rollBytes, rowWidth}
 use Rattle.rule.specs.Selection.{rollOf}
 use Rattle.rule.proofs.Existence.{roll-length}
@@ -32,7 +33,7 @@ use Rattle.grid_run.specs.GridRolled.{Reported}
 use Rattle.promises.specs.Runs.{Run, plain, grid, rowCount, Room, Reads, InRoll}
 
 blank : Row
-blank = record { id = 0; at = record { num = 0; den = 1 }; x = 0; y = 0; ending = Edge }
+blank = record { id = 0; at = record { num = 0; den = 1 }; x = 0; y = 0; ending = Edge; side = NoSide }
 
 module _ (l : List Command) (acc : Accepted (listing l)) where
   abbrev S : Listing
