@@ -69,6 +69,7 @@ pub fn edge_cause(a: Track) -> Cause
     ensures { λ r. ⌜ AtEdge a r ⌝ }
 {
     let there = Fraction { num: 0, den: 1 };
+    let side = Side::NoSide;
     match contact::edge_of(a) {
         Moment::Never => Cause {
             at: there,
@@ -76,7 +77,7 @@ pub fn edge_cause(a: Track) -> Cause
             id: 0,
             who: 0,
             there,
-            side: Side::NoSide,
+            side,
         },
         Moment::At(at) => Cause {
             at,
@@ -84,7 +85,7 @@ pub fn edge_cause(a: Track) -> Cause
             id: 0,
             who: 0,
             there,
-            side: Side::NoSide,
+            side,
         },
     }
 }

@@ -28,6 +28,7 @@ pub use row::Stored;
 pub use row::row_at;
 pub use rule::Ending;
 pub use rule::Row;
+pub use rule::Side;
 pub use text::head;
 pub use text::line;
 pub use text::refusal;

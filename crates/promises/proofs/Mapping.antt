@@ -64,7 +64,7 @@ module _ (l : List Command) (acc : Accepted (listing l)) where
       let m = in-roll l acc r h in
       let (a, i, e) = the-roll .meets .is-set .no-other r m in
       let k = the-roll .meets .by-rule r a m i e in
-      record { tip = a; on-sheet = i; own = e; lands = lands r m a i e (r .ending) (k .cause); x-rounded = k .rounded-x; y-rounded = k .rounded-y }
+      record { tip = a; on-sheet = i; own = e; lands = lands r m a i e (r .ending) (k .cause); came = k .came; x-rounded = k .rounded-x; y-rounded = k .rounded-y }
 
 pub mapping : (l : List Command) → Accepted (listing l) → Mapping l
 mapping l acc =

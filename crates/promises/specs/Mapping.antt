@@ -1,5 +1,5 @@
--- What the mapping section relies on. It draws the end points, and each trace ends on the wall or the trace that its row names
--- (SHEETS 4.5, 4.10, 5.4). Proved of every accepted sheet as `mapping` in proofs/Mapping.antt.
+-- What the mapping section relies on. It draws the end points, each trace ends on the wall or the trace that its row names, and comes to it
+-- from the side that the row gives (SHEETS 4.5, 4.10, 4.14, 5.4). Proved of every accepted sheet as `mapping` in proofs/Mapping.antt.
 use mathlib.Core.Path.{_≡_}
 use mathlib.Core.Logic.{_≢_}
 use mathlib.Core.List.{List}
@@ -8,13 +8,13 @@ use Rattle.fraction.specs.Time.{Time, _≤ᵗ_, _<ᵗ_, _≈ᵗ_}
 use Rattle.sheet.specs.declared.Command.{Command}
 use Rattle.sheet.specs.declared.Track.{Track}
 use Rattle.sheet.specs.declared.Wall.{Wall}
-use Rattle.sheet.specs.Listing.{_∈_, tracksOf, wallsOf}
+use Rattle.sheet.specs.Listing.{listing, _∈_, tracksOf, wallsOf}
 use Rattle.sheet.specs.Returned.{Returned, gives}
 use Rattle.rule.specs.declared.Row.{Row}
 use Rattle.rule.specs.declared.Ending.{Ending}
 use Rattle.rule.specs.declared.Ending.the-variants.{ByTrack, Meeting, ByWall, Edge}
 use Rattle.rule.specs.Motion.{X, Y, Same, OnWall, LastInside}
-use Rattle.rule.specs.Rows.{time, Rounded}
+use Rattle.rule.specs.Rows.{time, CameFrom, Rounded}
 use Rattle.promises.specs.Runs.{Run, rowCount, Room, Reads, InRoll}
 
 -- the time in tip b's own row is as P says
@@ -40,6 +40,8 @@ pub record EndPoint (l : List Command) (r : Row) : Type 0 where
   pub on-sheet : tip ∈ tracksOf l
   pub own : r .id ≡ tip .id
   pub lands : Lands l tip (time r) (r .ending)
+  -- from the side that the row gives (SHEETS 4.14)
+  pub came : CameFrom (listing l) tip (r .ending) (r .side)
   pub x-rounded : Rounded (X tip (time r)) (r .at .den) (r .x)
   pub y-rounded : Rounded (Y tip (time r)) (r .at .den) (r .y)
 
