@@ -8,40 +8,48 @@ use Rattle.fraction.specs.Time.{Time, _≤ᵗ_, _<ᵗ_, _≈ᵗ_}
 use Rattle.sheet.specs.declared.Command.{Command}
 use Rattle.sheet.specs.declared.Track.{Track}
 use Rattle.sheet.specs.declared.Wall.{Wall}
-use Rattle.sheet.specs.Listing.{listing, _∈_, tracksOf, wallsOf}
+use Rattle.sheet.specs.Listing.{_∈_, tracksOf, wallsOf}
 use Rattle.sheet.specs.Returned.{Returned, gives}
 use Rattle.rule.specs.declared.Row.{Row}
 use Rattle.rule.specs.declared.Ending.{Ending}
 use Rattle.rule.specs.declared.Ending.the-variants.{ByTrack, Meeting, ByWall, Edge}
-use Rattle.rule.specs.Motion.{X, Y, Same, OnWall, LastInside}
-use Rattle.rule.specs.Rows.{time, CameFrom, Rounded}
+use Rattle.rule.specs.declared.Side.{Side}
+use Rattle.rule.specs.declared.Side.the-variants.{NoSide}
+use Rattle.rule.specs.Motion.{X, Y, opening, Same, OnWall, LastInside}
+use Rattle.rule.specs.Side.{trackSide, wallSide}
+use Rattle.rule.specs.Beside.{Line, trackLine, wallLine, offset, On}
+use Rattle.rule.specs.Rows.{time, Rounded}
 use Rattle.promises.specs.Runs.{Run, rowCount, Room, Reads, InRoll}
 
 -- the time in tip b's own row is as P says
 abbrev pub OwnTime : List Command → Track → (Time → Type 0) → Type 0
 OwnTime l b P = (q : Row) → InRoll l q → q .id ≡ b .id → P (time q)
 
--- the exact point of tip a at time t is on what the ending names
-pub data Lands (l : List Command) (a : Track) (t : Time) : Ending → Type 0 where
+-- from its opening until t tip a is on the side d of a line (SHEETS 4.14)
+abbrev pub Until : Track → Time → Line → Side → Type 0
+Until a t line d = (u : Time) → opening a ≤ᵗ u → u <ᵗ t → On d (offset line a u)
+
+-- the exact point of tip a at time t is on what the ending names, and the tip comes there from the side that the row gives
+pub data Lands (l : List Command) (a : Track) (t : Time) : Ending → Side → Type 0 where
   -- kind 1: on that trace, where its tip had been before, at its own end at the latest
   on-trace :
       (b : Track) (s : Time) → b ∈ tracksOf l → b .id ≢ a .id → Same a t b s → s <ᵗ t → OwnTime l b (λ e. s ≤ᵗ e)
-      → Lands l a t (ByTrack (b .id))
+      → Until a t (trackLine b) (trackSide a b) → Lands l a t (ByTrack (b .id)) (trackSide a b)
   -- kind 2: where that tip is too, and its own row has the same time
-  together : (b : Track) → b ∈ tracksOf l → b .id ≢ a .id → Same a t b t → OwnTime l b (λ e. e ≈ᵗ t) → Lands l a t (Meeting (b .id))
+  together :
+      (b : Track) → b ∈ tracksOf l → b .id ≢ a .id → Same a t b t → OwnTime l b (λ e. e ≈ᵗ t)
+      → Until a t (trackLine b) (trackSide a b) → Lands l a t (Meeting (b .id)) (trackSide a b)
   -- kind 3: on that wall, between its ends or at one of them
-  on-wall : (w : Wall) → w ∈ wallsOf l → OnWall a t w → Lands l a t (ByWall (w .id))
+  on-wall : (w : Wall) → w ∈ wallsOf l → OnWall a t w → Until a t (wallLine w) (wallSide a w) → Lands l a t (ByWall (w .id)) (wallSide a w)
   -- kind 4: at the last moment inside the sheet
-  at-edge : LastInside a t → Lands l a t Edge
+  at-edge : LastInside a t → Lands l a t Edge NoSide
 
 -- a row's own tip, at the row's time, is there; the row's point is that point in 64ths, rounded down
 pub record EndPoint (l : List Command) (r : Row) : Type 0 where
   pub tip : Track
   pub on-sheet : tip ∈ tracksOf l
   pub own : r .id ≡ tip .id
-  pub lands : Lands l tip (time r) (r .ending)
-  -- from the side that the row gives (SHEETS 4.14)
-  pub came : CameFrom (listing l) tip (r .ending) (r .side)
+  pub lands : Lands l tip (time r) (r .ending) (r .side)
   pub x-rounded : Rounded (X tip (time r)) (r .at .den) (r .x)
   pub y-rounded : Rounded (Y tip (time r)) (r .at .den) (r .y)
 
