@@ -63,7 +63,7 @@ fn late_starts_are_hollow_with_their_times() {
 
 /// The letters of the sides in a picture, in the roll's order.
 fn letters(svg: &str) -> String {
-    let group = svg.split("font-size=\"8\" text-anchor=\"middle\">\n").nth(1).unwrap().split("</g>").next().unwrap();
+    let group = svg.split("font-size=\"10\" text-anchor=\"middle\">\n").nth(1).unwrap().split("</g>").next().unwrap();
     group.lines().map(|line| line.split(['>', '<']).nth(2).unwrap()).collect()
 }
 
