@@ -70,6 +70,12 @@ fn desk_in_c() {
     assert_eq!(at_the_desk("late.sheet"), late);
     let along = "track 1 ended on the trace of 2 (east), along its line\ntrack 2 ended at the edge\n0 still running\n";
     assert_eq!(at_the_desk("G.sheet"), along);
+    let sides = "track 1 ended at wall 1 (quay), from the left\n\
+                 track 2 ended at wall 2, from the right\n3 still running\n\
+                 track 3 ended at wall 3, along its line\n\
+                 track 4 ended meeting 5, from the left\n1 still running\n\
+                 track 5 ended meeting 4, from the right\n0 still running\n";
+    assert_eq!(at_the_desk("sides.sheet"), sides);
     assert_eq!(at_the_desk("K.sheet"), "0 still running\n");
     assert_eq!(at_the_desk("facing.sheet"), "refused 11 9\n");
 }

@@ -1,6 +1,6 @@
-//! The rolls of the starred sheets, and of the examples with start times.
+//! The rolls of the starred sheets, of the examples with start times, and of the example about sides.
 
-use reference::chosen::{document, late};
+use reference::chosen::{document, late, sides};
 use reference::roll::{roll, roll_bytes, Row};
 use reference::sheet::{read, Records};
 
@@ -110,4 +110,13 @@ fn sheet_behind() {
 fn sheet_late() {
     let first = ["3 2 4 10/1 12800 12800 1", "4 2 3 10/1 12800 12800 2"];
     assert_eq!(printed_late("late"), [first, ["1 4 0 20/1 0 6400 0", "2 1 1 40/1 0 6400 2"]].concat());
+}
+
+#[test]
+fn sheet_sides() {
+    let rows: Vec<_> = roll(&read(&sides::example()).expect("accepted")).iter().map(Row::to_string).collect();
+    let at_walls = ["1 3 1 10/1 12800 6400 1", "2 3 2 10/1 12800 19200 2", "3 3 3 10/1 19200 25600 3"];
+    // Where they meet a wall begins, but a track is named before it (SHEETS 4.9).
+    let meeting = ["4 2 5 10/1 12800 32000 1", "5 2 4 10/1 12800 32000 2"];
+    assert_eq!(rows, [&at_walls[..], &meeting].concat());
 }

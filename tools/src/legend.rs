@@ -90,7 +90,7 @@ fn hollow() -> String {
 }
 
 fn letters() -> String {
-    format!("<text x=\"17\" y=\"3\" fill=\"{}\" font-size=\"8\" text-anchor=\"middle\">L R A</text>", sides::COLOUR)
+    format!("<text x=\"15\" y=\"4\" fill=\"{}\" font-size=\"10\" text-anchor=\"middle\">L R A</text>", sides::COLOUR)
 }
 
 fn wall() -> String {

@@ -6,11 +6,11 @@ use crate::trace::Trace;
 use crate::view::in_64ths;
 use reference::roll::Side;
 
-pub const COLOUR: &str = "#666";
-const FONT: i64 = 800;
+pub const COLOUR: &str = "#555";
+const FONT: i64 = 1000;
 /// From the end point back along the trace, and from there aside to the middle of the letter.
 const BACK: i64 = 1400;
-const ASIDE: i64 = 650;
+const ASIDE: i64 = 750;
 
 /// None at the edge.
 fn letter(side: Side) -> Option<&'static str> {

@@ -63,7 +63,7 @@ fn late_starts_are_hollow_with_their_times() {
 
 /// The letters of the sides in a picture, in the roll's order.
 fn letters(svg: &str) -> String {
-    let group = svg.split("font-size=\"8\" text-anchor=\"middle\">\n").nth(1).unwrap().split("</g>").next().unwrap();
+    let group = svg.split("font-size=\"10\" text-anchor=\"middle\">\n").nth(1).unwrap().split("</g>").next().unwrap();
     group.lines().map(|line| line.split(['>', '<']).nth(2).unwrap()).collect()
 }
 
@@ -71,6 +71,7 @@ fn letters(svg: &str) -> String {
 fn sides_are_letters_at_the_ends() {
     let drawn = |name| letters(&picture(name, &[]).unwrap());
     assert_eq!(["B", "E", "H1", "J"].map(drawn), ["LR", "LLLL", "L", "R"]);
+    assert_eq!(drawn("sides"), "LRALR");
     // A tip that ends as it opens has no trace for a letter to stand beside, and the edge has no side.
     assert_eq!(["behind", "opening", "late", "I2"].map(drawn), ["AALL", "LRL", "LRR", ""]);
     let legend = ">from left, right, along</text>";
@@ -87,6 +88,9 @@ fn sides_are_told_where_the_pointer_rests() {
     tells("F", "track 2 ends at wall 1 from its right, time 5/1");
     tells("F", "track 1 ends at the edge, time 799/2");
     tells("G", "track 1 ends at trace 2 along its line, time 10/1");
+    tells("sides", "track 1 ends at wall 1 from its left, time 10/1");
+    tells("sides", "track 2 ends at wall 2 from its right, time 10/1");
+    tells("sides", "track 3 ends at wall 3 along its line, time 10/1");
 }
 
 #[test]
@@ -220,7 +224,7 @@ fn ids_stand_apart() {
         ids.len()
     });
     // There is no room for half of D's ids with two digits, nor for F's wall between trace 1 and the edge.
-    assert_eq!(found, [2, 2, 2, 36, 4, 2, 2, 2, 2, 1, 1, 2, 0, 4, 6, 6, 7, 4]);
+    assert_eq!(found, [2, 2, 2, 36, 4, 2, 2, 2, 2, 1, 1, 2, 0, 4, 6, 6, 7, 4, 9]);
 }
 
 #[test]

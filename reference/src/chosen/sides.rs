@@ -85,6 +85,21 @@ fn every_way() -> Vec<Vec<Command>> {
     sheets
 }
 
+/// The sheet `sides` of examples/: a wall from its left and one from its right, one along, and two tips that meet.
+pub fn example() -> Vec<u8> {
+    listing([
+        track(1, 100, 100, 10, 0),
+        track(2, 100, 300, 10, 0),
+        track(3, 200, 400, 10, 0),
+        track(4, 100, 500, 10, 0),
+        track(5, 200, 460, 0, 4),
+        wall(1, 200, 50, 200, 150),
+        wall(2, 200, 350, 200, 250),
+        wall(3, 300, 400, 400, 400),
+        wall(4, 200, 500, 300, 500),
+    ])
+}
+
 /// Without the few that are refused: an opening at the point where a wall is or another track opens, tips that face.
 pub fn sheets() -> Vec<Vec<u8>> {
     let sheets = [two_causes(), at_the_edge(), every_way()].concat();

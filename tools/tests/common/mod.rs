@@ -5,8 +5,9 @@ use std::path::PathBuf;
 use std::process::{Command, Stdio};
 
 /// The examples that are accepted.
-pub const NAMES: [&str; 18] = [
+pub const NAMES: [&str; 19] = [
     "A", "B", "C", "D", "E", "F", "G", "H1", "H2", "I1", "I2", "J", "K", "corner", "cell", "opening", "behind", "late",
+    "sides",
 ];
 
 /// The path of a file in the repository.
