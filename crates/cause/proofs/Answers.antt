@@ -16,7 +16,7 @@ use Rattle.contact.specs.declared.Touch.the-variants.{Nowhere, Hit}
 use Rattle.contact.specs.declared.Strike.{Strike}
 use Rattle.contact.specs.declared.Strike.the-variants.{Missed, Struck}
 use Rattle.rule.specs.declared.Side.{Side}
-use Rattle.rule.specs.Side.{trackSide, wallSide}
+use Rattle.rule.specs.Side.{trackSide, wallSide, sideNumber}
 use Rattle.rule.specs.Contact.{Quot, never, when, Contact, nowhere, hit, contact}
 use Rattle.rule.specs.EdgeTime.{rim}
 use Rattle.rule.specs.WallTime.{wallTime}
@@ -69,8 +69,8 @@ edge-at a {m} {u} e s h =
     let f : when (rim a) ≡ when (asTime u) = at-quot e h in
     record { u = u; timely = at-timely e s; is = refl; last = cc }
 
-pub wall-at : {a : Track} {w : Wall} {k : ℕ} {c r : Cause} {m : Strike} {u : Fraction} {d : Side} → m ≡ Struck u d → (strikeOf m ≡ wallTime a w) × StrikeTimely m × StruckFrom (wallSide a w) m → Least c (wallCause w k u d) r → WallOffered a w k c r
-wall-at {w = w} {k = k} {c = c} {r = r} {u = u} e h l = struck u (sym (h .0) ∙ ap strikeOf e) (struck-timely e (h .1)) (subst (λ (z : Side). Least c (wallCause w k u z) r) (struck-side e (h .2)) l)
+pub wall-at : {a : Track} {w : Wall} {k : ℕ} {c r : Cause} {m : Strike} {u : Fraction} {d : Side} → m ≡ Struck u d → (strikeOf m ≡ wallTime a w) × StrikeTimely m × StruckFrom (wallSide a w) m → Least c (wallCause w k u (sideNumber d)) r → WallOffered a w k c r
+wall-at {w = w} {k = k} {c = c} {r = r} {u = u} e h l = struck u (sym (h .0) ∙ ap strikeOf e) (struck-timely e (h .1)) (subst (λ (z : Side). Least c (wallCause w k u (sideNumber z)) r) (struck-side e (h .2)) l)
 
 module _ {a b : Track} {ended : ℕ} {end : Fraction} {t : Touch} where
   pub reached-hit : {u s : Fraction} {d : Side} → t ≡ Hit u s d → (touchOf t ≡ contact a b) × TouchTimely t × HitFrom (trackSide a b) t → (b .id ≡ a .id → ⊥) → (ended ≡ 0) ⊎ ((ended ≡ 0 → ⊥) × (asTime s ≤ᵗ asTime end)) → Reached a b ended end (Hit u s d)

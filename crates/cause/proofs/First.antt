@@ -13,6 +13,7 @@ use Rattle.fraction.specs.Sizes.{Timely}
 use Rattle.contact.specs.declared.Touch.{Touch}
 use Rattle.contact.specs.declared.Touch.the-variants.{Hit}
 use Rattle.rule.specs.declared.Side.{Side}
+use Rattle.rule.specs.Side.{sideNumber}
 use Rattle.rule.specs.Causes as rule
 use Rattle.rule.specs.Causes.{Cand, _≼_}
 use Rattle.cause.specs.declared.Cause.{Cause}
@@ -69,10 +70,14 @@ module _ (S : Listing) (t : Track) {a b r : Cause} (p : Stands S t a) (q : Stand
   pub first-of : Least a b r → Stands S t r × (candOf S r ≼ candOf S a) × (candOf S r ≼ candOf S b)
   first-of h = (first-stands h, first-left h, first-right h)
 
--- a track that the tip comes to: by the answer of the test, c or the track
-module _ (b : Track) (k : ℕ) {c : Cause} {t : Touch} {u s : Fraction} {d : Side} (hits : t ≡ Hit u s d) {r : Bool} (told : Tells c (tipCause b k u s d) r) where
-  pub taken-first : r ≡ true → Taken b k t c c
-  taken-first e = subst (λ (z : Touch). Taken b k z c c) (sym hits) (least-first told e)
+-- the first of c and a cause, whose side was told as n and is m
+module _ {c : Cause} (found : ℕ → Cause) {n m : ℕ} (number : n ≡ m) {r : Bool} (told : Tells c (found n) r) where
+  pub number-first : r ≡ true → Least c (found m) c
+  number-first e = least-first (subst (λ (k : ℕ). Tells c (found k) r) number told) e
 
-  pub taken-second : r ≡ false → Taken b k t c (tipCause b k u s d)
-  taken-second e = subst (λ (z : Touch). Taken b k z c (tipCause b k u s d)) (sym hits) (least-second told e)
+  pub number-second : r ≡ false → Least c (found m) (found n)
+  number-second e = subst (λ (k : ℕ). Least c (found k) (found n)) number (least-second told e)
+
+-- a track that the tip comes to
+pub taken : (b : Track) (k : ℕ) {c r : Cause} {t : Touch} {u s : Fraction} {d : Side} → t ≡ Hit u s d → Least c (tipCause b k u s (sideNumber d)) r → Taken b k t c r
+taken b k {c} {r} e l = subst (λ (z : Touch). Taken b k z c r) (sym e) l

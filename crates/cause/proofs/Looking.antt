@@ -24,7 +24,7 @@ use Rattle.rule.specs.Causes.{Cand, by-tip, by-bar, by-rim, Below, _≼_, upTo}
 use Rattle.rule.specs.Contact.{when, never, hit, contact}
 use Rattle.rule.specs.EdgeTime.{rim}
 use Rattle.rule.specs.WallTime.{wallTime}
-use Rattle.rule.specs.Side.{trackSide, wallSide}
+use Rattle.rule.specs.Side.{trackSide, wallSide, sideNumber}
 use Rattle.rule.proofs.Existence.{cand-trans}
 use Rattle.rule.proofs.OnSheet.{contact-of, contact-hit}
 use Rattle.rule.specs.Meanwhile.{Formal, Beats, Fresh, Live}
@@ -58,7 +58,7 @@ pub record OfEdge (S : Listing) (a : Track) (c : Cause) : Type 0 where
 
 module _ (S : Listing) (a : Track) where
   edge-stands : (u : Fraction) → Timely u → asTime u ≡ rim a → OfEdge S a (edgeCause u)
-  unfolding whyOf
+  unfolding whyOf sideNumber
   edge-stands u h e =
       record {
         stands = record { fine = record { at = h; there = unused-timely }; formal = e; ranked = refl; named = refl; known = λ z. absurd (omega arith); id-in = omega arith; sided = refl };
@@ -109,7 +109,7 @@ module _ {S : Listing} {a : Track} {K : ℕ → Type 0} where
   walls-none {c} f s = record { stands = s; first = ≼-self (candOf S c); no-track = λ h. h; at-walls = λ j l k. absurd (f j k) }
 
 module _ (S : Listing) (acc : Accepted S) (a : Track) (k : ℕ) (in-walls : k < length (S .walls)) where
-  wall-stands : (u : Fraction) → Timely u → wallTime a (wallAt S k) ≡ when (asTime u) → Stands S a (wallCause (wallAt S k) k u (wallSide a (wallAt S k)))
+  wall-stands : (u : Fraction) → Timely u → wallTime a (wallAt S k) ≡ when (asTime u) → Stands S a (wallCause (wallAt S k) k u (sideNumber (wallSide a (wallAt S k))))
   unfolding whyOf
   wall-stands u h e =
       record {
@@ -122,7 +122,7 @@ module _ (S : Listing) (acc : Accepted S) (a : Track) (k : ℕ) (in-walls : k < 
         sided = refl;
       }
 
-  wall-hit : {c r : Cause} (u : Fraction) → Stands S a c → wallTime a (wallAt S k) ≡ when (asTime u) → Timely u → Least c (wallCause (wallAt S k) k u (wallSide a (wallAt S k))) r → FirstOfSomeWalls S a (λ (j : ℕ). j ≡ k) c r
+  wall-hit : {c r : Cause} (u : Fraction) → Stands S a c → wallTime a (wallAt S k) ≡ when (asTime u) → Timely u → Least c (wallCause (wallAt S k) k u (sideNumber (wallSide a (wallAt S k)))) r → FirstOfSomeWalls S a (λ (j : ℕ). j ≡ k) c r
   unfolding whyOf
   wall-hit {c} {r} u s e h l =
       let w = wall-stands u h e in
@@ -136,7 +136,7 @@ module _ (S : Listing) (acc : Accepted S) (a : Track) (k : ℕ) (in-walls : k < 
             (λ g. let p : asTime u ≡ v = cc in subst (λ (z : Time). Below (candOf S r) z (by-bar (wallAt S k))) p right) f;
       }
     where
-      go : Least c (wallCause (wallAt S k) k u (wallSide a (wallAt S k))) r → 0 < c .class → 0 < r .class
+      go : Least c (wallCause (wallAt S k) k u (sideNumber (wallSide a (wallAt S k)))) r → 0 < c .class → 0 < r .class
       go (inl (x, y)) z = subst (λ (z : Cause). 0 < z .class) (sym x) z
       go (inr (x, y)) z = subst (λ (z : Cause). 0 < z .class) (sym x) (omega arith)
 
@@ -184,7 +184,7 @@ module _ (S : Listing) (acc : Accepted S) (a : Track) (here : a ∈ S .tracks) (
   there : b ∈ S .tracks
   there = mem-at noTrack (S .tracks) k in-tracks
 
-  tip-stands : (u s : Fraction) → b .id ≢ a .id → Timely u → Timely s → contact a b ≡ hit (asTime u) (asTime s) → Stands S a (tipCause b k u s (trackSide a b))
+  tip-stands : (u s : Fraction) → b .id ≢ a .id → Timely u → Timely s → contact a b ≡ hit (asTime u) (asTime s) → Stands S a (tipCause b k u s (sideNumber (trackSide a b)))
   unfolding whyOf
   tip-stands u s n h g e =
       record {
@@ -216,7 +216,7 @@ module _ (S : Listing) (acc : Accepted S) (a : Track) (here : a ∈ S .tracks) (
     tip-live u s n h (inr (x, y)) = ≤ᵗ-trans y (≈ᵗ→≤ᵗ (≈ᵗ-sym (gone x .stops u)))
 
     tip-hit : {c r : Cause} (u s : Fraction) → Stands S a c → b .id ≢ a .id → contact a b ≡ hit (asTime u) (asTime s) → (ended ≡ 0) ⊎ ((ended ≡ 0 → ⊥) × (asTime s ≤ᵗ asTime end)) → Timely u → Timely s →
-        Least c (tipCause b k u s (trackSide a b)) r → FirstOfTracks S done a (λ (j : ℕ). j ≡ k) c r
+        Least c (tipCause b k u s (sideNumber (trackSide a b))) r → FirstOfTracks S done a (λ (j : ℕ). j ≡ k) c r
     unfolding whyOf
     tip-hit {c} {r} u s p n e q h g l =
         let w = tip-stands u s n h g e in
@@ -228,7 +228,7 @@ module _ (S : Listing) (acc : Accepted S) (a : Track) (here : a ∈ S .tracks) (
           at-tips = λ j i m. subst (λ (i : ℕ). tipAt S i .id ≢ a .id → Beats done (candOf S r) a (tipAt S i)) (sym m) (λ y. beats-hit (asTime u) (asTime s) e right);
         }
       where
-        go : Live done (candOf S c .u) (candOf S c .why) → asTime s ≤ᵗ upTo done (asTime u) (b .id) → Least c (tipCause b k u s (trackSide a b)) r → Live done (candOf S r .u) (candOf S r .why)
+        go : Live done (candOf S c .u) (candOf S c .why) → asTime s ≤ᵗ upTo done (asTime u) (b .id) → Least c (tipCause b k u s (sideNumber (trackSide a b))) r → Live done (candOf S r .u) (candOf S r .why)
         go y z (inl (x, _)) = subst (λ (z : Cause). Live done (candOf S z .u) (candOf S z .why)) (sym x) y
         go y z (inr (x, _)) = subst (λ (z : Cause). Live done (candOf S z .u) (candOf S z .why)) (sym x) z
 

@@ -11,6 +11,7 @@ use Rattle.sheet.specs.Listing.{Listing}
 use Rattle.sheet.specs.HandedIn.{noTrack, noWall}
 use Rattle.rule.specs.Causes.{Why, by-tip, by-bar, by-rim, Cand, cls, who, sideTo}
 use Rattle.rule.specs.Meanwhile.{Formal}
+use Rattle.rule.specs.Side.{sideNumber}
 use Rattle.fraction.specs.Sizes.{Timely}
 use Rattle.cause.specs.declared.Cause.{Cause}
 
@@ -42,7 +43,7 @@ pub record Stands (S : Listing) (a : Track) (c : Cause) : Type 0 where
   pub named : who (candOf S c .why) ≡ c .id
   pub known : c .class ≡ 0 → c .who < length (S .tracks)
   pub id-in : c .id ≤ 65535
-  pub sided : c .side ≡ sideTo a (candOf S c .why)
+  pub sided : c .side ≡ sideNumber (sideTo a (candOf S c .why))
 
 -- by time, then tracks, walls and the edge in this order, then by id (SHEETS 4.6, 4.9)
 pub data Comes (a b : Cause) : Type 0 where

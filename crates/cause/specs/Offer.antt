@@ -9,9 +9,7 @@ use Rattle.sheet.specs.declared.Wall.{Wall}
 use Rattle.rule.specs.Contact.{never, when, nowhere, hit, contact}
 use Rattle.rule.specs.WallTime.{wallTime}
 use Rattle.rule.specs.EdgeTime.{rim}
-use Rattle.rule.specs.declared.Side.{Side}
-use Rattle.rule.specs.declared.Side.the-variants.{NoSide}
-use Rattle.rule.specs.Side.{trackSide, wallSide}
+use Rattle.rule.specs.Side.{trackSide, wallSide, sideNumber}
 use Rattle.fraction.specs.Sizes.{Timely}
 use Rattle.contact.specs.declared.Touch.{Touch}
 use Rattle.contact.specs.declared.Touch.the-variants.{Nowhere, Hit}
@@ -23,7 +21,7 @@ abbrev pub unused : Fraction
 unused = record { num = 0; den = 1 }
 
 abbrev pub edgeCause : Fraction → Cause
-edgeCause u = record { at = u; class = 2; id = 0; who = 0; there = unused; side = NoSide }
+edgeCause u = record { at = u; class = 2; id = 0; who = 0; there = unused; side = 0 }
 
 -- the edge
 pub record AtEdge (a : Track) (r : Cause) : Type 0 where
@@ -32,16 +30,16 @@ pub record AtEdge (a : Track) (r : Cause) : Type 0 where
   pub is : r ≡ edgeCause u
   pub last : asTime u ≡ rim a
 
-abbrev pub wallCause : Wall → ℕ → Fraction → Side → Cause
-wallCause w k u d = record { at = u; class = 1; id = w .id; who = k; there = unused; side = d }
+abbrev pub wallCause : Wall → ℕ → Fraction → ℕ → Cause
+wallCause w k u side = record { at = u; class = 1; id = w .id; who = k; there = unused; side = side }
 
 -- r is the first of c and the wall w
 pub data WallOffered (a : Track) (w : Wall) (k : ℕ) (c r : Cause) : Type 0 where
   passed : wallTime a w ≡ never → r ≡ c → WallOffered a w k c r
-  struck : (u : Fraction) → wallTime a w ≡ when (asTime u) → Timely u → Least c (wallCause w k u (wallSide a w)) r → WallOffered a w k c r
+  struck : (u : Fraction) → wallTime a w ≡ when (asTime u) → Timely u → Least c (wallCause w k u (sideNumber (wallSide a w))) r → WallOffered a w k c r
 
-abbrev pub tipCause : Track → ℕ → Fraction → Fraction → Side → Cause
-tipCause b k u s d = record { at = u; class = 0; id = b .id; who = k; there = s; side = d }
+abbrev pub tipCause : Track → ℕ → Fraction → Fraction → ℕ → Cause
+tipCause b k u s side = record { at = u; class = 0; id = b .id; who = k; there = s; side = side }
 
 -- t is where tip a comes to the trace of b: nowhere if tip b, which has ended at `end` unless `ended` is 0, ended before it would have been there (SHEETS 4.5)
 pub data Reached (a b : Track) (ended : ℕ) (end : Fraction) (t : Touch) : Type 0 where
@@ -53,7 +51,7 @@ pub data Reached (a b : Track) (ended : ℕ) (end : Fraction) (t : Touch) : Type
 -- r is the first of c and the track b, which the tip comes to by t
 abbrev pub Taken : Track → ℕ → Touch → Cause → Cause → Type 0
 Taken b k Nowhere c r = r ≡ c
-Taken b k (Hit u s d) c r = Least c (tipCause b k u s d) r
+Taken b k (Hit u s d) c r = Least c (tipCause b k u s (sideNumber d)) r
 
 -- r is the first of c and the track b
 pub record TipOffered (a b : Track) (k ended : ℕ) (end : Fraction) (c r : Cause) : Type 0 where

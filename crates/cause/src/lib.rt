@@ -12,19 +12,19 @@ use contact::Moment;
 use contact::Strike;
 use contact::Touch;
 use fraction::Fraction;
-use rule::Side;
 use sheet::Track;
 use sheet::Wall;
 
 // What ends a tip, and when. The class is 0 for a track, 1 for a wall, 2 for the edge; id is the partner's, 0 for the edge,
-// who its index among the sheet's tracks or walls; `there` is when a track was there; the side is that from which the tip comes to it.
+// who its index among the sheet's tracks or walls; `there` is when a track was there; side is the number of the side from which the tip
+// comes to it, 0 for the edge (SHEETS 4.14). All fields are words, so that a copy has no gaps to carry along.
 pub struct Cause {
     pub at: Fraction,
     pub class: u64,
     pub id: u64,
     pub who: u64,
     pub there: Fraction,
-    pub side: Side,
+    pub side: u64,
 }
 
 // Does a come before b: by time, then tracks, walls and the edge in this order, then by id (SHEETS 4.6, 4.9)?
@@ -69,7 +69,7 @@ pub fn edge_cause(a: Track) -> Cause
     ensures { λ r. ⌜ AtEdge a r ⌝ }
 {
     let there = Fraction { num: 0, den: 1 };
-    let side = Side::NoSide;
+    let side: u64 = 0;
     match contact::edge_of(a) {
         Moment::Never => Cause {
             at: there,
@@ -101,6 +101,7 @@ pub fn with_wall(c: Cause, a: Track, w: Wall, k: usize) -> Cause
             let id = w.id as u64;
             let who = k as u64;
             let there = Fraction { num: 0, den: 1 };
+            let side = row::number_of(side) as u64;
             let found = Cause {
                 at,
                 class: 1,
@@ -149,6 +150,7 @@ pub fn with_track(c: Cause, b: Track, k: usize, t: Touch) -> Cause
         Touch::Hit { at, there, side } => {
             let id = b.id as u64;
             let who = k as u64;
+            let side = row::number_of(side) as u64;
             let found = Cause {
                 at,
                 class: 0,

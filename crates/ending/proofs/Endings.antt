@@ -11,6 +11,8 @@ use Rattle.sheet.specs.declared.Track.{Track}
 use Rattle.rule.specs.declared.Ending.{Ending}
 use Rattle.rule.specs.declared.Ending.the-variants.{ByTrack, Meeting, ByWall, Edge}
 use Rattle.rule.specs.Causes.{who, rowOf, kind, endingOf}
+use Rattle.rule.specs.Side.{sideFrom}
+use Rattle.rule.proofs.Sides.{side-back}
 use Rattle.row.specs.RowAt.{rowAt}
 use Rattle.cause.specs.declared.Cause.{Cause}
 use Rattle.cause.specs.Cause.{tipAt, whyOf, candOf, Stands}
@@ -57,5 +59,5 @@ ending-is S a {c} t (leaves x y e) = e ∙ left S a (asTime (c .at)) (asTime (c 
 
 -- ---- the row of a cause
 
-pub row-is : (S : Listing) (a : Track) {c : Cause} {e : Ending} → Stands S a c → EndingOf c e → rowAt a (asTime (c .at)) e (c .side) ≡ rowOf a (candOf S c)
-row-is S a {c} t g = ap₂ (rowAt a (asTime (c .at))) (ending-is S a t g) (t .sided)
+pub row-is : (S : Listing) (a : Track) {c : Cause} {e : Ending} → Stands S a c → EndingOf c e → rowAt a (asTime (c .at)) e (sideFrom (c .side)) ≡ rowOf a (candOf S c)
+row-is S a {c} t g = ap₂ (rowAt a (asTime (c .at))) (ending-is S a t g) (ap sideFrom (t .sided) ∙ side-back _)

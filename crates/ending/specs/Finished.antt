@@ -8,6 +8,7 @@ use Rattle.sheet.specs.Listing.{Listing}
 use Rattle.rule.specs.declared.Ending.{Ending}
 use Rattle.rule.specs.Causes.{low}
 use Rattle.rule.specs.RowBytes.{rowBytes, rowWidth}
+use Rattle.rule.specs.Side.{sideFrom}
 use Rattle.row.specs.RowAt.{rowAt}
 use Rattle.cause.specs.Cause.{tipAt}
 use Rattle.tips.specs.Tips.{Tip, tipIn, withEnd}
@@ -31,4 +32,4 @@ finish ts i = withEnd ts i (low (endOf (tipIn ts i)))
 -- its end is noted, and its row is at place k
 pub record Finished (S : Listing) (i k : ℕ) (e : Ending) (ts : List Tip) (out : List ℕ) (ts′ : List Tip) (out′ : List ℕ) : Type 0 where
   pub noted : ts′ ≡ finish ts i
-  pub written : out′ ≡ sets out (rowWidth * k) (rowBytes (rowAt (tipAt S i) (endOf (tipIn ts i)) e (tipIn ts i .best .side)))
+  pub written : out′ ≡ sets out (rowWidth * k) (rowBytes (rowAt (tipAt S i) (endOf (tipIn ts i)) e (sideFrom (tipIn ts i .best .side))))

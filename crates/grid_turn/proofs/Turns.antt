@@ -12,6 +12,7 @@ use Rattle.rule.specs.declared.Ending.{Ending}
 use Rattle.rule.specs.declared.Ending.the-variants.{ByWall, Edge}
 use Rattle.rule.specs.declared.Row.{Row}
 use Rattle.rule.specs.RowBytes.{rowBytes, rowWidth}
+use Rattle.rule.specs.Side.{sideFrom}
 use Rattle.row.specs.RowAt.{rowAt}
 use Rattle.cause.specs.Cause.{tipAt}
 use Rattle.ending.specs.Ended.{EndingOf, strikes, leaves, nextRow}
@@ -111,7 +112,7 @@ module _ {S : Listing} {g k : ℕ} {t q m ms : List ℕ} (h : Swept (Going S g k
         may-end = record { tip-in = event-here (h .holds) first .0; endable = ended-endable (h .holds) first late counts; more = ended-room (h .holds) first late counts }
 
         module _ {ending : Ending} (kind : EndingOf (tipIn (tipsIn t) i .best) ending) where
-          is-next : rowAt (tipAt S i) (endOf (tipIn (tipsIn t) i)) ending (tipIn (tipsIn t) i .best .side) ≡ nextRow S k
+          is-next : rowAt (tipAt S i) (endOf (tipIn (tipsIn t) i)) ending (sideFrom (tipIn (tipsIn t) i .best .side)) ≡ nextRow S k
           is-next = row-is S (tipAt S i) (event-stands (h .holds) first) kind ∙ sym (ended-row (h .holds) first late counts)
 
           module _ {k′ : ℕ} {out out′ : List ℕ} (t′ q′ : List ℕ) (n : k′ ≡ k + 1) (f : Finished S i k ending (tipsIn t) out (tipsIn t′) out′) (z : slots q′ ≡ slots q₁) where

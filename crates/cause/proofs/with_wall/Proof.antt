@@ -1,8 +1,8 @@
 -- `with_wall` gives the first of a cause and a wall.
 use mathlib.Core.Path.{refl}
-use Rattle.cause.specs.Offer.{passed}
+use Rattle.cause.specs.Offer.{wallCause, passed}
 use Rattle.cause.proofs.Answers.{unused-timely, struck-timely, missed-wall, wall-at}
-use Rattle.cause.proofs.First.{least-first, least-second}
+use Rattle.cause.proofs.First.{number-first, number-second}
 use borrow.Author.Needs.{needs}
 use Rattle.cause.proofs.with_wall.Statement.{statement}
 use Rattle.cause.proofs.with_wall.Tie as tie
@@ -19,17 +19,27 @@ enum-known-at c = search needs
 cast-id : tie.Need-cast-id
 cast-id c = search needs
 
+number-of-requires : tie.Need-number-of-requires
+number-of-requires c κs = search needs
+
+cast-side : tie.Need-cast-side
+cast-side c = search needs
+
 ahead-requires : tie.Need-ahead-requires
-ahead-requires c κs = (c .before .before .before .before .before .pre .0, record { at = struck-timely (c .before .before .at .given .1) (c .before .before .before .before .wall-of .ensures .1); there = unused-timely })
+ahead-requires c κs = (c .before .before .before .before .before .before .pre .0, record { at = struck-timely (c .before .before .before .at .given .1) (c .before .before .before .before .before .wall-of .ensures .1); there = unused-timely })
 
 returns : tie.Need-returns
-returns c = wall-at (c .before .before .before .before .at .given .1) (c .before .before .before .before .before .before .wall-of .ensures) (least-first (c .before .ahead .ensures) (c .if1 .taken))
+returns c =
+    let a = c .before .before .before .before .before .before .before .before .args in
+    wall-at (c .before .before .before .before .before .at .given .1) (c .before .before .before .before .before .before .before .wall-of .ensures) (number-first (wallCause (a .w) (a .k) _) (c .before .before .number-of .ensures) (c .before .ahead .ensures) (c .if1 .taken))
 
 returns-2 : tie.Need-returns-2
 returns-2 c = passed (missed-wall (c .enum-told .given .1) (c .before .before .wall-of .ensures .0)) refl
 
 returns-3 : tie.Need-returns-3
-returns-3 c = wall-at (c .before .before .before .before .at .given .1) (c .before .before .before .before .before .before .wall-of .ensures) (least-second (c .before .ahead .ensures) (c .if1 .left))
+returns-3 c =
+    let a = c .before .before .before .before .before .before .before .before .args in
+    wall-at (c .before .before .before .before .before .at .given .1) (c .before .before .before .before .before .before .before .wall-of .ensures) (number-second (wallCause (a .w) (a .k) _) (c .before .before .number-of .ensures) (c .before .ahead .ensures) (c .if1 .left))
 
 pub with-wall-spec : {M : Type 1} → statement M
 with-wall-spec =
@@ -39,6 +49,8 @@ with-wall-spec =
     enum-told
     enum-known-at
     cast-id
+    number-of-requires
+    cast-side
     ahead-requires
     returns
     returns-2
