@@ -11,7 +11,7 @@ use Rattle.rule.specs.declared.Ending.the-variants.{ByTrack, Meeting, By
 use Rattle.rule.specs.declared.Side.{Side}
 use Rattle.rule.specs.declared.Side.the-variants.{NoSide, Left, Right, Along}
 use Rattle.rule.specs.Side.{trackSide, wallSide, sideNumber, sideFrom}
-use Rattle.rule.specs.Rows.{FromTrack, FromWall, CameFrom}
+use Rattle.rule.specs.Rows.{FromTrack, CameFrom}
 
 -- ---- numbers
 

@@ -1,4 +1,5 @@
--- What the side of a row means on the map (SHEETS 4.14). Main theorems: `track-side` and `wall-side`, until a tip comes to the line that ends it, it is on the side of that line that its row names; `side-turned`, `meeting-sides` and `along-parallel`.
+-- What the side of a row means on the map (SHEETS 4.14). Main theorems: `track-side` and `wall-side`, until a tip comes to the line that ends it, it is on that side of the line which its row names;
+-- `side-turned`, `meeting-sides` and `along-parallel`.
 use mathlib.Core.Path.{_≡_, refl, sym, ap, _∙_}
 use mathlib.Core.Logic.{_↔_}
 use Prim.Native.Nat.{ℕ, zero, suc, _+_, _*_, _-_, _<_}
@@ -16,7 +17,7 @@ use Rattle.sheet.specs.declared.Wall.{Wall}
 use Rattle.sheet.specs.Table.{cross, gap}
 use Rattle.rule.specs.declared.Side.{Side}
 use Rattle.rule.specs.declared.Side.the-variants.{NoSide, Left, Right, Along}
-use Rattle.rule.specs.Motion.{at, Xᵃ, Yᵃ, Sameᵃ, opening, age, Same, OnWall}
+use Rattle.rule.specs.Motion.{at, Yᵃ, Sameᵃ, opening, age, Same, OnWall}
 use Rattle.rule.specs.Side.{sideOf, trackSide, wallSide, sideNumber}
 use Rattle.rule.specs.Contact.{D, N}
 use Rattle.rule.specs.WallTime.{along, turned}

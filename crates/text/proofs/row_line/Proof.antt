@@ -1,9 +1,26 @@
 -- Eight fields of at most 21 bytes.
 use Rattle.text.proofs.Lines.{room, less-room, left-by-field, eight}
+use Rattle.text.specs.Held.{Room}
 use borrow.Author.Needs.{needs}
 use native.Mathlib.Omega.{arith}
 use Rattle.text.proofs.row_line.Statement.{statement}
 use Rattle.text.proofs.row_line.Tie as tie
+
+-- what room is left behind five fields and behind six
+left-5 : (k : tie.After-put-field5) → Room (k .put-field5 .result) 63
+left-5 k =
+    left-by-field 63
+    (left-by-field 84
+    (left-by-field 105
+    (left-by-field 126
+    (left-by-field 147 (room (k .before .before .before .before .before .before .before .before .empty .ensures) 168 (omega arith)) (k .before .before .before .before .before .before .put-field .ensures))
+    (k .before .before .before .before .put-field2 .ensures))
+    (k .before .before .put-field3 .ensures))
+    (k .before .put-field4 .ensures))
+    (k .put-field5 .ensures)
+
+left-6 : (k : tie.After-put-field6) → Room (k .put-field6 .result) 42
+left-6 k = left-by-field 42 (left-5 (k .before .before)) (k .put-field6 .ensures)
 
 empty-requires : tie.Need-empty-requires
 empty-requires c κs = search needs
@@ -42,39 +59,13 @@ cast-put-field-4 : tie.Need-cast-put-field-4
 cast-put-field-4 c = search needs
 
 put-field-requires-6 : tie.Need-put-field-requires-6
-put-field-requires-6 c κs =
-    less-room 63 21
-    (left-by-field 63
-    (left-by-field 84
-    (left-by-field 105
-    (left-by-field 126
-    (left-by-field 147
-    (room (c .before .before .before .before .before .before .before .before .before .empty .ensures) 168 (omega arith))
-    (c .before .before .before .before .before .before .before .put-field .ensures))
-    (c .before .before .before .before .before .put-field2 .ensures))
-    (c .before .before .before .put-field3 .ensures))
-    (c .before .before .put-field4 .ensures))
-    (c .before .put-field5 .ensures)) (omega arith)
+put-field-requires-6 c κs = less-room 63 21 (left-5 (c .before)) (omega arith)
 
 cast-put-field-5 : tie.Need-cast-put-field-5
 cast-put-field-5 c = search needs
 
 put-field-requires-7 : tie.Need-put-field-requires-7
-put-field-requires-7 c κs =
-    less-room 42 21
-    (left-by-field 42
-    (left-by-field 63
-    (left-by-field 84
-    (left-by-field 105
-    (left-by-field 126
-    (left-by-field 147
-    (room (c .before .before .before .before .before .before .before .before .before .before .before .empty .ensures) 168 (omega arith))
-    (c .before .before .before .before .before .before .before .before .before .put-field .ensures))
-    (c .before .before .before .before .before .before .before .put-field2 .ensures))
-    (c .before .before .before .before .before .put-field3 .ensures))
-    (c .before .before .before .before .put-field4 .ensures))
-    (c .before .before .before .put-field5 .ensures))
-    (c .before .put-field6 .ensures)) (omega arith)
+put-field-requires-7 c κs = less-room 42 21 (left-6 (c .before)) (omega arith)
 
 number-of-requires : tie.Need-number-of-requires
 number-of-requires c κs = search needs
@@ -83,22 +74,7 @@ cast-put-field-6 : tie.Need-cast-put-field-6
 cast-put-field-6 c = search needs
 
 put-field-requires-8 : tie.Need-put-field-requires-8
-put-field-requires-8 c κs =
-    left-by-field 21
-    (left-by-field 42
-    (left-by-field 63
-    (left-by-field 84
-    (left-by-field 105
-    (left-by-field 126
-    (left-by-field 147
-    (room (c .before .before .before .before .before .before .before .before .before .before .before .before .before .empty .ensures) 168 (omega arith))
-    (c .before .before .before .before .before .before .before .before .before .before .before .put-field .ensures))
-    (c .before .before .before .before .before .before .before .before .before .put-field2 .ensures))
-    (c .before .before .before .before .before .before .before .put-field3 .ensures))
-    (c .before .before .before .before .before .before .put-field4 .ensures))
-    (c .before .before .before .before .before .put-field5 .ensures))
-    (c .before .before .before .put-field6 .ensures))
-    (c .before .put-field7 .ensures)
+put-field-requires-8 c κs = left-by-field 21 (left-6 (c .before .before .before)) (c .before .put-field7 .ensures)
 
 returns : tie.Need-returns
 returns c =
