@@ -101,7 +101,7 @@ pub fn with_wall(c: Cause, a: Track, w: Wall, k: usize) -> Cause
             let id = w.id as u64;
             let who = k as u64;
             let there = Fraction { num: 0, den: 1 };
-            let side = row::number_of(side) as u64;
+            let side = row::side_number(side) as u64;
             let found = Cause {
                 at,
                 class: 1,
@@ -150,7 +150,7 @@ pub fn with_track(c: Cause, b: Track, k: usize, t: Touch) -> Cause
         Touch::Hit { at, there, side } => {
             let id = b.id as u64;
             let who = k as u64;
-            let side = row::number_of(side) as u64;
+            let side = row::side_number(side) as u64;
             let found = Cause {
                 at,
                 class: 0,

@@ -88,7 +88,7 @@ fn row_line(row: Row) -> Draft
     let den = put_field(num, row.at.den, b' ');
     let x = put_field(den, row.x as u64, b' ');
     let y = put_field(x, row.y as u64, b' ');
-    put_field(y, row::number_of(from) as u64, b'\n')
+    put_field(y, row::side_number(from) as u64, b'\n')
 }
 
 fn head_line(tracks: u64, cells: u64) -> Draft

@@ -17,8 +17,8 @@ enum-known-t c = search needs
 cast-id : tie.Need-cast-id
 cast-id c = search needs
 
-number-of-requires : tie.Need-number-of-requires
-number-of-requires c κs = search needs
+side-number-requires : tie.Need-side-number-requires
+side-number-requires c κs = search needs
 
 cast-side : tie.Need-cast-side
 cast-side c = search needs
@@ -29,7 +29,7 @@ ahead-requires c κs = let q = hit-timely (c .before .before .before .t .given .
 returns : tie.Need-returns
 returns c =
     let a = c .before .before .before .before .before .before .before .args in
-    taken (a .b) (a .k) (c .before .before .before .before .before .t .given .1) (number-first (tipCause (a .b) (a .k) _ _) (c .before .before .number-of .ensures) (c .before .ahead .ensures) (c .if1 .taken))
+    taken (a .b) (a .k) (c .before .before .before .before .before .t .given .1) (number-first (tipCause (a .b) (a .k) _ _) (c .before .before .side-number .ensures) (c .before .ahead .ensures) (c .if1 .taken))
 
 returns-2 : tie.Need-returns-2
 returns-2 c = let a = c .before .before .args in subst (λ (t : Touch). Taken (a .b) (a .k) t (a .c) (a .c)) (sym (c .enum-told .given .1)) refl
@@ -37,8 +37,8 @@ returns-2 c = let a = c .before .before .args in subst (λ (t : Touch). Taken (a
 returns-3 : tie.Need-returns-3
 returns-3 c =
     let a = c .before .before .before .before .before .before .before .args in
-    taken (a .b) (a .k) (c .before .before .before .before .before .t .given .1) (number-second (tipCause (a .b) (a .k) _ _) (c .before .before .number-of .ensures) (c .before .ahead .ensures) (c .if1 .left))
+    taken (a .b) (a .k) (c .before .before .before .before .before .t .given .1) (number-second (tipCause (a .b) (a .k) _ _) (c .before .before .side-number .ensures) (c .before .ahead .ensures) (c .if1 .left))
 
 pub with-track-spec : {M : Type 1} → statement M
 with-track-spec =
-    tie.close (tie.spec enum-told enum-known-t cast-id number-of-requires cast-side ahead-requires returns returns-2 returns-3)
+    tie.close (tie.spec enum-told enum-known-t cast-id side-number-requires cast-side ahead-requires returns returns-2 returns-3)

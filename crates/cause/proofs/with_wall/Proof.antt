@@ -19,8 +19,8 @@ enum-known-at c = search needs
 cast-id : tie.Need-cast-id
 cast-id c = search needs
 
-number-of-requires : tie.Need-number-of-requires
-number-of-requires c κs = search needs
+side-number-requires : tie.Need-side-number-requires
+side-number-requires c κs = search needs
 
 cast-side : tie.Need-cast-side
 cast-side c = search needs
@@ -31,7 +31,7 @@ ahead-requires c κs = (c .before .before .before .before .before .before .pre .
 returns : tie.Need-returns
 returns c =
     let a = c .before .before .before .before .before .before .before .before .args in
-    wall-at (c .before .before .before .before .before .at .given .1) (c .before .before .before .before .before .before .before .wall-of .ensures) (number-first (wallCause (a .w) (a .k) _) (c .before .before .number-of .ensures) (c .before .ahead .ensures) (c .if1 .taken))
+    wall-at (c .before .before .before .before .before .at .given .1) (c .before .before .before .before .before .before .before .wall-of .ensures) (number-first (wallCause (a .w) (a .k) _) (c .before .before .side-number .ensures) (c .before .ahead .ensures) (c .if1 .taken))
 
 returns-2 : tie.Need-returns-2
 returns-2 c = passed (missed-wall (c .enum-told .given .1) (c .before .before .wall-of .ensures .0)) refl
@@ -39,7 +39,7 @@ returns-2 c = passed (missed-wall (c .enum-told .given .1) (c .before .before .w
 returns-3 : tie.Need-returns-3
 returns-3 c =
     let a = c .before .before .before .before .before .before .before .before .args in
-    wall-at (c .before .before .before .before .before .at .given .1) (c .before .before .before .before .before .before .before .wall-of .ensures) (number-second (wallCause (a .w) (a .k) _) (c .before .before .number-of .ensures) (c .before .ahead .ensures) (c .if1 .left))
+    wall-at (c .before .before .before .before .before .at .given .1) (c .before .before .before .before .before .before .before .wall-of .ensures) (number-second (wallCause (a .w) (a .k) _) (c .before .before .side-number .ensures) (c .before .ahead .ensures) (c .if1 .left))
 
 pub with-wall-spec : {M : Type 1} → statement M
 with-wall-spec =
@@ -49,7 +49,7 @@ with-wall-spec =
     enum-told
     enum-known-at
     cast-id
-    number-of-requires
+    side-number-requires
     cast-side
     ahead-requires
     returns

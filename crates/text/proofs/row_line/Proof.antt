@@ -67,8 +67,8 @@ cast-put-field-5 c = search needs
 put-field-requires-7 : tie.Need-put-field-requires-7
 put-field-requires-7 c κs = less-room 42 21 (left-6 (c .before)) (omega arith)
 
-number-of-requires : tie.Need-number-of-requires
-number-of-requires c κs = search needs
+side-number-requires : tie.Need-side-number-requires
+side-number-requires c κs = search needs
 
 cast-put-field-6 : tie.Need-cast-put-field-6
 cast-put-field-6 c = search needs
@@ -78,7 +78,7 @@ put-field-requires-8 c κs = left-by-field 21 (left-6 (c .before .before .before
 
 returns : tie.Need-returns
 returns c =
-    eight (c .before .before .before .before .before .before .before .before .before .before .before .before .before .before .before .args .row) (c .before .before .before .before .before .before .before .before .before .before .before .kind-of .ensures) (c .before .before .before .before .before .before .before .before .before .partner-of .ensures) (c .before .number-of .ensures)
+    eight (c .before .before .before .before .before .before .before .before .before .before .before .before .before .before .before .args .row) (c .before .before .before .before .before .before .before .before .before .before .before .kind-of .ensures) (c .before .before .before .before .before .before .before .before .before .partner-of .ensures) (c .before .side-number .ensures)
     (c .before .before .before .before .before .before .before .before .before .before .before .before .before .before .empty .ensures)
     (c .before .before .before .before .before .before .before .before .before .before .before .before .put-field .ensures .0)
     (c .before .before .before .before .before .before .before .before .before .before .put-field2 .ensures .0)
@@ -108,7 +108,7 @@ row-line-spec =
     put-field-requires-6
     cast-put-field-5
     put-field-requires-7
-    number-of-requires
+    side-number-requires
     cast-put-field-6
     put-field-requires-8
     returns)

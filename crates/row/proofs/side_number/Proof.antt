@@ -1,8 +1,8 @@
 -- The number of each side.
 use borrow.Author.Needs.{needs}
 use Rattle.rule.specs.Side.{sideNumber}
-use Rattle.row.proofs.number_of.Statement.{statement}
-use Rattle.row.proofs.number_of.Tie as tie
+use Rattle.row.proofs.side_number.Statement.{statement}
+use Rattle.row.proofs.side_number.Tie as tie
 
 enum-told : tie.Need-enum-told
 enum-told c = search needs
@@ -32,7 +32,7 @@ returns-4 : tie.Need-returns-4
 unfolding sideNumber
 returns-4 c = search needs
 
-pub number-of-spec : {M : Type 1} → statement M
-number-of-spec =
+pub side-number-spec : {M : Type 1} → statement M
+side-number-spec =
     tie.close
     (tie.spec enum-told enum-told-2 enum-told-3 enum-told-4 returns returns-2 returns-3 returns-4)
