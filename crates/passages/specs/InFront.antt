@@ -1,4 +1,4 @@
--- Rows in front of a buffer, whatever stands behind them.
+-- Rows in front of a buffer, whatever stands behind them. Nobody need believe this file: it is what `passages_of` asks of the rows that it reads back.
 use mathlib.Core.Path.{_≡_}
 use mathlib.Core.List.{List, _++_}
 use Prim.Native.Nat.{ℕ}

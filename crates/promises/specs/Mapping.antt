@@ -29,7 +29,7 @@ OwnTime l b P = (q : Row) → InRoll l q → q .id ≡ b .id → P (time q)
 abbrev pub Until : Track → Time → Line → Side → Type 0
 Until a t line d = (u : Time) → opening a ≤ᵗ u → u <ᵗ t → On d (offset line a u)
 
--- the exact point of tip a at time t is on what the ending names, and the tip comes there from the side that the row gives
+-- the exact point of tip a at time t is on what the ending names, and the tip comes there from the side that the row gives (SHEETS 4.10, 4.14)
 pub data Lands (l : List Command) (a : Track) (t : Time) : Ending → Side → Type 0 where
   -- kind 1: on that trace, where its tip had been before, at its own end at the latest
   on-trace :

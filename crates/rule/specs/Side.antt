@@ -23,12 +23,13 @@ trackSide a b = sideOf (cross (b .vx) (b .vy) (a .vx) (a .vy))
 abbrev pub wallSide : Track → Wall → Side
 wallSide a w = sideOf (cross (gap (w .ax) (w .bx)) (gap (w .ay) (w .by)) (a .vx) (a .vy))
 
--- the number of a side (SHEETS 4.14), and the side of a number
+-- the number of a side (SHEETS 4.14)
 unfoldable pub sideNumber : Side → ℕ
 sideNumber NoSide = 0
 sideNumber Left = 1
 sideNumber Right = 2
 sideNumber Along = 3
 
+-- the side of a number (SHEETS 4.14): none also where it is no side's, which whoever reads a row asks first (SHEETS 5.8)
 unfoldable pub sideFrom : ℕ → Side
 sideFrom n = cond (eqb n 1) Left (cond (eqb n 2) Right (cond (eqb n 3) Along NoSide))
