@@ -6,11 +6,12 @@
  *
  * Each function but fissure_name returns 0 when the call is accepted, else the number of the refusal (FISSURE_... below), and stores the
  * other number of its answer in `second` (docs/SHEETS.md, 3.1 and 11). With a refusal that is:
- *   for 1 and 4 to 11 the place of the command in the sheet's bytes, counted from 0;
+ *   for 1 and 4 to 10 the place of the command in the sheet's bytes, counted from 0;
  *   for 2 the place of the command that is cut short, or the length of the input where it ends with no command there;
  *   for 3 the first place after the end (the byte 00);
  *   for 12 the length needed of the slice that is too short, in bytes of `out` or in numbers of `session`;
  *   for 13 the figure; for 14 zero.
+ * 11 is unused: no call returns it, since sheets with tips that face each other are accepted.
  * A refused call writes `second` and nothing else: `out`, `session` and `cells` stay as they came. An accepted call writes no byte past
  * those it gives.
  */
@@ -36,7 +37,7 @@ enum fissure_refusal {
     FISSURE_ID_USED = 8,
     FISSURE_START_USED = 9,
     FISSURE_START_ON_WALL = 10,
-    FISSURE_FACING = 11,
+    FISSURE_UNUSED_11 = 11, /* no call returns it */
     FISSURE_OUTPUT_TOO_SHORT = 12,
     FISSURE_GRID_FIGURE = 13,
     FISSURE_OUTSIDE_GRID = 14

@@ -29,8 +29,15 @@ impl Time {
         Time { num: self.num + i64::from(a.start_time) * self.den, den: self.den }
     }
 
+    /// The numbers of a cause are below 2^38 and 2^25, so that the products are below 2^63.
     pub fn order(self, other: Time) -> Ordering {
         (self.num * other.den).cmp(&(other.num * self.den))
+    }
+
+    /// In lowest terms, as a row has it.
+    fn lowest(self) -> Time {
+        let g = gcd(self.num, self.den);
+        Time { num: self.num / g, den: self.den / g }
     }
 
     fn sooner(a: Option<Time>, b: Option<Time>) -> Option<Time> {
@@ -72,6 +79,11 @@ impl Cause {
             other
         }
     }
+
+    /// As it is kept from the tip's end on: other tips may come to the end point, and their times are worked out from this one.
+    pub fn lowest(self) -> Cause {
+        Cause { at: self.at.lowest(), ..self }
+    }
 }
 
 fn gap(a: u16, b: u16) -> i64 {
@@ -104,14 +116,40 @@ fn reach(a: &Track, dx: i64, dy: i64) -> Option<Time> {
     }
 }
 
-/// The ages of a and b at a point of both lines, on one line at the start of the one in front, and the side from which a comes.
+/// Of tips on one line: how far the start of b is from that of a, and the two speeds, along an axis on which both move.
+fn along(a: &Track, b: &Track) -> (i64, i64, i64) {
+    if a.vx != 0 {
+        (gap(a.x, b.x), a.vx.into(), b.vx.into())
+    } else {
+        (gap(a.y, b.y), a.vy.into(), b.vy.into())
+    }
+}
+
+/// The ages of two tips that face each other: where they meet, or where one of them opens on the way that the other has come. `to_b` and
+/// `to_a` are their ages at each other's starts.
+fn meeting(a: &Track, b: &Track, to_b: Time, to_a: Time) -> (Time, Time) {
+    let (d, v, w) = along(a, b);
+    let k = i64::from(a.start_time) - i64::from(b.start_time);
+    match (Time::quotient(d + k * w, v - w), Time::quotient(d + k * v, v - w)) {
+        (Some(own), Some(other)) => (own, other),
+        (None, _) => (ZERO, to_a),
+        (_, None) => (to_b, ZERO),
+    }
+}
+
+/// The ages of a and b at a point of both lines, and the side from which a comes. On one line this is where they meet, or the start of the
+/// one in front.
 fn contact(a: &Track, b: &Track) -> Option<(Time, Time, u8)> {
     let (vx, vy, wx, wy) = (i64::from(a.vx), i64::from(a.vy), i64::from(b.vx), i64::from(b.vy));
     let (dx, dy) = (gap(a.x, b.x), gap(a.y, b.y));
     let turn = cross(vx, vy, wx, wy);
     if turn == 0 {
-        let ahead = reach(a, dx, dy).map(|t| (t, ZERO, ALONG));
-        return ahead.or_else(|| reach(b, -dx, -dy).map(|s| (ZERO, s, ALONG)));
+        let (own, other) = match (reach(a, dx, dy), reach(b, -dx, -dy)) {
+            (Some(to_b), Some(to_a)) => meeting(a, b, to_b, to_a),
+            (Some(to_b), None) => (to_b, ZERO),
+            (None, to_a) => (ZERO, to_a?),
+        };
+        return Some((own, other, ALONG));
     }
     let t = Time::quotient(cross(dx, dy, wx, wy), turn)?;
     let s = Time::quotient(cross(dx, dy, vx, vy), turn)?;
@@ -152,14 +190,30 @@ pub fn at_wall(a: &Track, who: usize, w: &Wall) -> Option<Cause> {
     wall_contact(a, w).map(|(age, side)| Cause { at: age.of(a), class: 1, id: w.id, who, reached: ZERO, side })
 }
 
-/// Tip a at a point of the line of tip b, number `who`, which b reaches no later.
-pub fn at_track(a: &Track, who: usize, b: &Track) -> Option<Cause> {
-    let (own, other, side) = contact(a, b)?;
-    let (at, reached) = (own.of(a), other.of(b));
-    reached.order(at).is_le().then_some(Cause { at, class: 0, id: b.id, who, reached, side })
+/// The time at which a comes to where b, on its line, has ended, if that is ahead of it: of two tips that run the same way none does.
+fn arrival(a: &Track, b: &Track, end: Time) -> Option<Time> {
+    let (d, v, w) = along(a, b);
+    let age = end.num - i64::from(b.start_time) * end.den;
+    Time::quotient(d * end.den + w * age, v * end.den).map(|age| age.of(a))
 }
 
-fn gcd(a: u64, b: u64) -> u64 {
+/// Tip a at a point of the line of tip b, number `who`, which b reaches no later than a, nor later than at its own `end`, if it has ended.
+/// Where a faces b and b ended too soon, that is the end point of b.
+pub fn at_track(a: &Track, who: usize, b: &Track, end: Option<Time>) -> Option<Cause> {
+    let (own, other, side) = contact(a, b)?;
+    let (at, reached) = (own.of(a), other.of(b));
+    if reached.order(at).is_gt() {
+        return None;
+    }
+    let (at, reached) = match end {
+        Some(end) if reached.order(end).is_gt() && side == ALONG => (arrival(a, b, end)?, end),
+        Some(end) if reached.order(end).is_gt() => return None,
+        _ => (at, reached),
+    };
+    Some(Cause { at, class: 0, id: b.id, who, reached, side })
+}
+
+fn gcd(a: i64, b: i64) -> i64 {
     if b == 0 {
         a
     } else {
@@ -167,14 +221,13 @@ fn gcd(a: u64, b: u64) -> u64 {
     }
 }
 
+/// The row of a tip whose ending has its time in lowest terms.
 pub fn write_row(out: &mut [u8], a: &Track, c: &Cause) {
-    let (num, den) = (c.at.num as u64, c.at.den as u64);
-    let g = gcd(num, den);
-    let (num, den) = (num / g, den / g);
-    let age = num as i64 - i64::from(a.start_time) * den as i64;
+    let Time { num, den } = c.at;
+    let age = num - i64::from(a.start_time) * den;
     let place = |x: u16, v: i8| {
-        let p = i64::from(x) * den as i64 + i64::from(v) * age;
-        (64 * p / den as i64) as u32
+        let p = i64::from(x) * den + i64::from(v) * age;
+        (64 * p / den) as u32
     };
     let kind = match c.class {
         0 if c.at.order(c.reached).is_le() => 2,

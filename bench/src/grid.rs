@@ -1,7 +1,7 @@
 //! The grid run's own algorithm in Rust, in machine words, for the ratio of speeds. At most one event is pending for each tip: the sooner of
 //! its next cell entry and its best cause. Two tips are looked at together when the second of them enters a cell of the first.
 
-use crate::causes::{at_track, at_wall, edge, write_row, Cause, NO_CAUSE};
+use crate::causes::{at_track, at_wall, edge, write_row, Cause, Time, NO_CAUSE};
 use crate::queue::{Key, Queue, NO_KEY};
 use reference::roll::Row;
 use reference::sheet::{Records, Track, Wall};
@@ -106,6 +106,11 @@ impl<'a> Run<'a> {
         self.ended[cause.who] && cause.reached.order(self.best[cause.who].at).is_gt()
     }
 
+    /// When the tip ended, if it has.
+    fn end(&self, i: usize) -> Option<Time> {
+        self.ended[i].then_some(self.best[i].at)
+    }
+
     fn reached_key(&self, i: usize) -> Key {
         let at = self.best[i].at;
         Key { num: at.num, den: at.den, late: REACHED, id: self.track(i).id }
@@ -138,15 +143,14 @@ impl<'a> Run<'a> {
         self.looked[i][j] = true;
         self.looked[j][i] = true;
         let (a, b) = (self.track(i), self.track(j));
-        if let Some(cause) = at_track(a, j, b) {
-            if !self.void(&cause) {
-                self.best[i] = self.best[i].least(cause);
-            }
+        if let Some(cause) = at_track(a, j, b, self.end(j)) {
+            self.best[i] = self.best[i].least(cause);
         }
         if self.ended[j] {
             return;
         }
-        if let Some(cause) = at_track(b, i, a) {
+        // Tip i has not ended, since it enters a cell.
+        if let Some(cause) = at_track(b, i, a, None) {
             self.best[j] = self.best[j].least(cause);
             let key = self.reached_key(j);
             if key.leaves_before(&self.queue.key(j)) {
@@ -187,10 +191,8 @@ impl<'a> Run<'a> {
         let mut best = self.base[i];
         for (j, b) in self.records.tracks.iter().enumerate() {
             if self.looked[i][j] {
-                if let Some(cause) = at_track(self.track(i), j, b) {
-                    if !self.void(&cause) {
-                        best = best.least(cause);
-                    }
+                if let Some(cause) = at_track(self.track(i), j, b, self.end(j)) {
+                    best = best.least(cause);
                 }
             }
         }
@@ -218,8 +220,9 @@ impl<'a> Run<'a> {
             } else if self.best[i].class == 0 && self.void(&self.best[i]) {
                 self.look_again(i);
             } else {
-                write_row(&mut out[rows * Row::LENGTH..][..Row::LENGTH], self.track(i), &self.best[i]);
+                self.best[i] = self.best[i].lowest();
                 self.ended[i] = true;
+                write_row(&mut out[rows * Row::LENGTH..][..Row::LENGTH], self.track(i), &self.best[i]);
                 rows += 1;
             }
         }

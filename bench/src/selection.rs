@@ -14,10 +14,8 @@ fn of_tracks(records: &Records, a: &Track, base: Cause, ended: &[bool], best: &[
         if b.id == a.id {
             return least;
         }
-        match at_track(a, who, b) {
-            Some(cause) if !ended[who] || cause.reached.order(best[who].at).is_le() => least.least(cause),
-            _ => least,
-        }
+        let end = ended[who].then_some(best[who].at);
+        at_track(a, who, b, end).map_or(least, |cause| least.least(cause))
     })
 }
 
@@ -40,7 +38,8 @@ pub fn roll(records: &Records, out: &mut [u8]) {
         let running = (0..tracks.len()).filter(|&i| !ended[i]);
         let next = running.min_by(|&i, &j| best[i].at.order(best[j].at).then(tracks[i].id.cmp(&tracks[j].id)));
         let i = next.expect("a running tip");
-        write_row(&mut out[k * Row::LENGTH..][..Row::LENGTH], &tracks[i], &best[i]);
+        best[i] = best[i].lowest();
         ended[i] = true;
+        write_row(&mut out[k * Row::LENGTH..][..Row::LENGTH], &tracks[i], &best[i]);
     }
 }

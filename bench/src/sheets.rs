@@ -2,6 +2,7 @@
 
 use reference::cells::{cells_of, Cell, FIGURES};
 use reference::made_up::{Ground, BORDERS, SMALL, WHOLE};
+use reference::plane::Vector;
 use reference::rng::Rng;
 use reference::roll::{roll, Row};
 use reference::sheet::{commands, listing, read, Command, Records, Track};
@@ -85,8 +86,30 @@ impl Timed {
     }
 }
 
-/// So many tracks and walls of those that are made, or fewer where there is no room for them.
-fn fill(tracks: usize, walls: usize, mut make: impl FnMut(&mut Rng) -> Command) -> Vec<Command> {
+/// Do the two run toward each other along one line (SHEETS 4.15)?
+fn face(a: &Track, b: &Track) -> bool {
+    let gap = b.start() - a.start();
+    let ahead = |way: Vector, speed: Vector| way.cross(speed) == 0 && way.dot(speed) > 0;
+    ahead(gap, a.speed()) && ahead(-gap, b.speed())
+}
+
+/// Tracks and walls as `fill_facing` gives them, but no two tips that face each other: such sheets were refused once, and builds of then
+/// and now are compared on these.
+fn fill(tracks: usize, walls: usize, make: impl FnMut(&mut Rng) -> Command) -> Vec<Command> {
+    fill_with(tracks, walls, |records, track| !records.tracks.iter().any(|other| face(track, other)), make)
+}
+
+fn fill_facing(tracks: usize, walls: usize, make: impl FnMut(&mut Rng) -> Command) -> Vec<Command> {
+    fill_with(tracks, walls, |_, _| true, make)
+}
+
+/// So many tracks and walls of those that are made, the tracks such as are wanted, or fewer where there is no room for them.
+fn fill_with(
+    tracks: usize,
+    walls: usize,
+    suits: impl Fn(&Records, &Track) -> bool,
+    mut make: impl FnMut(&mut Rng) -> Command,
+) -> Vec<Command> {
     let mut rng = Rng::new(SEED);
     let mut records = Records::default();
     let mut listed = Vec::new();
@@ -100,7 +123,8 @@ fn fill(tracks: usize, walls: usize, mut make: impl FnMut(&mut Rng) -> Command) 
             Command::Wall(_) => records.walls.len() < walls,
             Command::End => false,
         };
-        if wanted && records.admit(command).is_ok() {
+        let suits = command.as_track().is_none_or(|track| suits(&records, &track));
+        if wanted && suits && records.admit(command).is_ok() {
             listed.push(command);
         }
     }
@@ -140,6 +164,38 @@ fn late(tracks: usize, walls: usize) -> Vec<Command> {
     })
 }
 
+/// A point of the sheet, and a direction.
+type Line = ([u16; 2], [i8; 2]);
+
+fn line(rng: &mut Rng) -> Line {
+    let point = [0; 2].map(|_: u16| rng.below(4096) as u16);
+    (point, rng.pick(&[[1, 0], [0, 1], [1, 1], [1, -1], [2, 1], [1, -3], [3, 2]]))
+}
+
+/// A tip on the line, not far from its point and running either way, with a start time from 0 to 15; none if it starts outside the sheet.
+fn tip_on(line: &Line, rng: &mut Rng) -> Option<Command> {
+    let ([x, y], [vx, vy]) = *line;
+    let (steps, speed) = (rng.below(512) as i32 - 256, 1 + rng.below(21) as i8);
+    let along = |from: u16, part: i8| u16::try_from(i32::from(from) + steps * i32::from(part)).ok();
+    let speed = if rng.one_in(2) { speed } else { -speed };
+    let (id, start_time) = (rng.draw() as u16, rng.below(16) as u16);
+    Some(Track { id, x: along(x, vx)?, y: along(y, vy)?, vx: speed * vx, vy: speed * vy, start_time }.command())
+}
+
+/// Random walls, and tips about eight to a line, so that most have one that runs toward them.
+fn facing(tracks: usize, walls: usize) -> Vec<Command> {
+    let mut shared = None;
+    fill_facing(tracks, walls, |rng| {
+        let command = WHOLE.command(rng);
+        if command.as_track().is_none() {
+            return command;
+        }
+        let line = shared.take().filter(|_| !rng.one_in(8)).unwrap_or_else(|| line(rng));
+        shared = Some(line);
+        tip_on(&line, rng).unwrap_or(Command::End)
+    })
+}
+
 pub fn on_ground(kind: &'static str, ground: &Ground, tracks: usize, walls: usize) -> Timed {
     Timed::new(kind, fill(tracks, walls, |rng| ground.command(rng)))
 }
@@ -149,12 +205,13 @@ pub fn with_short_traces(tracks: usize, walls: usize) -> Timed {
 }
 
 /// Random; on cell borders; on a field of 20 × 20 points, which has no room for 256 tracks beside 256 walls; with short traces; random
-/// with start times. All but the last start at 0.
+/// with start times; facing each other on common lines. All but the last two start at 0.
 pub fn all() -> Vec<Timed> {
     let grounds = [("random", WHOLE), ("borders", BORDERS), ("snapped", SMALL)];
     let of =
         |(kind, ground): (&'static str, Ground)| SIZES.map(|(tracks, walls)| on_ground(kind, &ground, tracks, walls));
     let short = SIZES.map(|(tracks, walls)| with_short_traces(tracks, walls));
     let late = SIZES.map(|(tracks, walls)| Timed::new("late", late(tracks, walls)));
-    grounds.into_iter().flat_map(of).chain(short).chain(late).collect()
+    let facing = SIZES.map(|(tracks, walls)| Timed::new("facing", facing(tracks, walls)));
+    grounds.into_iter().flat_map(of).chain(short).chain(late).chain(facing).collect()
 }

@@ -15,7 +15,7 @@ use std::{env, fs};
 
 /// Accepted sheets: all chosen ones, and made-up ones without end, of each seed those for shapes first.
 fn sheets() -> impl Iterator<Item = (Vec<u8>, Records)> {
-    let made_up = (1..).flat_map(|seed| made_up::all(seed).into_iter().rev());
+    let made_up = (1..).flat_map(|seed| [made_up::shapes::all(seed), made_up::all(seed)].concat());
     let all = reference::chosen::all().into_iter().chain(made_up);
     all.filter_map(|sheet| read(&sheet).ok().map(|records| (sheet, records)))
 }

@@ -22,7 +22,8 @@ impl Refusal {
     pub const ID_USED: u64 = 8;
     pub const START_USED: u64 = 9;
     pub const START_ON_WALL: u64 = 10;
-    pub const FACING: u64 = 11;
+    /// No call gives it: sheets with tips that face each other are accepted.
+    pub const UNUSED_11: u64 = 11;
     pub const OUTPUT_TOO_SHORT: u64 = 12;
     pub const GRID_FIGURE: u64 = 13;
     pub const OUTSIDE_GRID: u64 = 14;
@@ -40,7 +41,7 @@ impl Refusal {
             Refusal::ID_USED => "an id that another track, or another wall, has",
             Refusal::START_USED => "a start point that another track has",
             Refusal::START_ON_WALL => "a start point on a wall",
-            Refusal::FACING => "two tips that face each other",
+            Refusal::UNUSED_11 => "unused: no call gives this number",
             Refusal::OUTPUT_TOO_SHORT => "a lent slice that is too short",
             Refusal::GRID_FIGURE => "a grid figure that is none of the six",
             Refusal::OUTSIDE_GRID => "a cell outside the grid",

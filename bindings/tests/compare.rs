@@ -4,7 +4,7 @@
 use fissures::{numbers, Cell, GridRoll, Place, Row, Session, Shapefile, Side, LONGEST_ROLL, ROW, SHAPEFILES};
 use reference::cells::{self, FIGURES};
 use reference::made_up::entering::{entering, entering_late, Entering};
-use reference::made_up::{self, late, BORDERS, COARSE, SMALL};
+use reference::made_up::{self, facing, late, BORDERS, COARSE, SMALL};
 use reference::names::place_in;
 use reference::refusal::{Refusal, OUTPUT_TOO_SHORT};
 use reference::rng::Rng;
@@ -165,10 +165,30 @@ fn start_times() {
     }
 }
 
-/// Crowded sheets: on cell borders, where tips enter two cells at their start, and snapped to a small field; with start times.
+/// Tips that face each other: accepted, and with one roll by both runs, at the six figures and in another order of the commands.
+#[test]
+fn facing_tips() {
+    let mut rng = Rng::new(12);
+    let drawn: Vec<_> = (0..3500).map(|number| facing::MAKERS[number % facing::MAKERS.len()](&mut rng)).collect();
+    for sheet in drawn.into_iter().chain(reference::chosen::facing::sheets()) {
+        let expected = read(&sheet).map(|records| roll(&records)).map(|rows| (rows.len(), roll_bytes(&rows)));
+        let other = made_up::in_another_order(&mut rng, &sheet);
+        for sheet in [Some(sheet), other].into_iter().flatten() {
+            compare(&expected, |out| fissures::plain(&sheet, out));
+            for figure in FIGURES {
+                compare(&by_grid(&sheet, figure), |out| fissures::grid(&sheet, figure, out));
+            }
+        }
+    }
+}
+
+/// Crowded sheets: on cell borders, where tips enter two cells at their start, and snapped to a small field; with start times and with
+/// facing tips.
 fn crowded(rng: &mut Rng) -> Vec<u8> {
-    if rng.one_in(3) {
-        return rng.pick(&late::MAKERS)(rng);
+    match rng.below(4) {
+        0 => return rng.pick(&late::MAKERS)(rng),
+        1 => return rng.pick(&facing::MAKERS)(rng),
+        _ => {}
     }
     let (ground, draws) = rng.pick(&[(BORDERS, 60), (BORDERS, 200), (COARSE, 60), (SMALL, 200)]);
     listing(ground.accepted(rng, draws))
@@ -186,7 +206,7 @@ fn compare_orders(rng: &mut Rng, sheet: &[u8], cell: Cell) {
 #[test]
 fn cell_listing_in_two_orders() {
     let mut rng = Rng::new(9);
-    for _ in 0..60 {
+    for _ in 0..80 {
         let sheet = crowded(&mut rng);
         let figure = rng.pick(&[2, 4, 8, 32]);
         for _ in 0..figure {

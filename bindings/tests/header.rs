@@ -33,7 +33,7 @@ fn same_numbers() {
         ("ID_USED", Refusal::ID_USED),
         ("START_USED", Refusal::START_USED),
         ("START_ON_WALL", Refusal::START_ON_WALL),
-        ("FACING", Refusal::FACING),
+        ("UNUSED_11", Refusal::UNUSED_11),
         ("OUTPUT_TOO_SHORT", Refusal::OUTPUT_TOO_SHORT),
         ("GRID_FIGURE", Refusal::GRID_FIGURE),
         ("OUTSIDE_GRID", Refusal::OUTSIDE_GRID),
@@ -80,9 +80,10 @@ fn sides_by_number() {
 
 #[test]
 fn a_refusal_as_an_error() {
-    let facing = Refusal { number: Refusal::FACING, place: 9 };
-    let error: Box<dyn std::error::Error> = facing.into();
-    assert_eq!(error.to_string(), "refused 11 9");
-    assert_eq!(facing.meaning(), "two tips that face each other");
-    assert_eq!(Refusal { number: 15, ..facing }.meaning(), "no line of the table");
+    let refusal = Refusal { number: Refusal::START_ON_WALL, place: 9 };
+    let error: Box<dyn std::error::Error> = refusal.into();
+    assert_eq!(error.to_string(), "refused 10 9");
+    assert_eq!(refusal.meaning(), "a start point on a wall");
+    assert_eq!(Refusal { number: 11, ..refusal }.meaning(), "unused: no call gives this number");
+    assert_eq!(Refusal { number: 15, ..refusal }.meaning(), "no line of the table");
 }

@@ -77,7 +77,14 @@ fn desk_in_c() {
                  track 5 ended meeting 4, from the right\n0 still running\n";
     assert_eq!(at_the_desk("sides.sheet"), sides);
     assert_eq!(at_the_desk("K.sheet"), "0 still running\n");
-    assert_eq!(at_the_desk("facing.sheet"), "refused 11 9\n");
+    let facing = at_the_desk("facing.sheet");
+    let both = "track 1 ended meeting 2 (east), along its line\n\
+                track 2 ended meeting 1 (north), along its line\n7 still running\n";
+    assert!(
+        facing.starts_with(both) && facing.contains("track 3 ended on the trace of 4, along its line\n"),
+        "{facing}"
+    );
+    assert_eq!(at_the_desk("refused.sheet"), "refused 10 9\n");
 }
 
 #[test]
@@ -109,7 +116,7 @@ fn sheets_for_files() -> Vec<Vec<u8>> {
     let examples = fs::read_dir(root().join("examples")).expect("examples/");
     let mut paths: Vec<_> = examples.map(|entry| entry.expect("an entry").path()).collect();
     paths.retain(|path| path.extension().is_some_and(|extension| extension == "sheet"));
-    paths.sort_by_key(|path| (!path.ends_with("facing.sheet"), path.clone()));
+    paths.sort_by_key(|path| (!path.ends_with("refused.sheet"), path.clone()));
     let read_in = paths.iter().map(|path| fs::read(path).expect("a sheet"));
     read_in.chain(reference::chosen::late::sheets()).collect()
 }
@@ -162,7 +169,7 @@ fn sheet_shp() {
         let command = command.arg(root().join("examples").join(sheet)).arg(folder.join("deep/base"));
         command.stdout(Stdio::null()).status().expect("tools/sheet-shp").code()
     };
-    assert_eq!(status("facing.sheet"), Some(1));
+    assert_eq!(status("refused.sheet"), Some(1));
     assert_eq!(status("none.sheet"), Some(2));
     assert!(!folder.join("deep/base-ends.shp").exists());
     assert_eq!(status("late.sheet"), Some(0));

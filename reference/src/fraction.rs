@@ -31,6 +31,12 @@ impl Fraction {
         (self.numerator / factor, self.denominator / factor)
     }
 
+    /// The same fraction in lowest terms.
+    pub fn reduced(self) -> Self {
+        let (numerator, denominator) = self.lowest();
+        Fraction { numerator, denominator }
+    }
+
     pub fn floor(self) -> i128 {
         self.numerator.div_euclid(self.denominator)
     }

@@ -9,6 +9,7 @@ pub mod chosen;
 pub mod fraction;
 pub mod frames;
 pub mod handed_in;
+pub mod line;
 pub mod made_up;
 pub mod names;
 pub mod plane;

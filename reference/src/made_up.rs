@@ -1,6 +1,7 @@
 //! Made-up sheets from a seed: accepted ones, nearly accepted ones, and damaged ones.
 
 pub mod entering;
+pub mod facing;
 pub mod handed_in;
 pub mod late;
 pub mod names;
@@ -11,7 +12,7 @@ use crate::rng::Rng;
 use crate::sheet::{listing, read, whole_commands, Command, Records, Track, Wall, MAX_COORDINATE};
 
 /// Where starts and wall ends are put: `count` lines each way, `step` apart. Few lines make
-/// meetings, shared lines and refusals 8 to 11 frequent.
+/// meetings, facing tips and refusals 8 to 10 frequent.
 #[derive(Clone, Copy, Debug)]
 pub struct Ground {
     origin: u16,
@@ -61,7 +62,7 @@ impl Ground {
         }
     }
 
-    /// A command that may break rules 5, 6 and 8 to 11 by chance.
+    /// A command that may break rules 5, 6 and 8 to 10 by chance.
     pub fn command(&self, rng: &mut Rng) -> Command {
         if rng.below(3) < 2 {
             Command::Track(self.track(rng))
@@ -140,7 +141,8 @@ pub fn doubtful(rng: &mut Rng) -> Vec<u8> {
     listing((0..count).map(|_| ground.doubtful_command(rng)))
 }
 
-/// A command made to break one of the rules 8 to 11 by what it has in common with `track`.
+/// A command made to break one of the rules 8 to 10 by what it has in common with `track`, or a tip that faces that one
+/// or is ahead of it on its line, which breaks none.
 fn provoking_command(rng: &mut Rng, ground: &Ground, track: &Track) -> Command {
     let Track { x, y, vx, vy, .. } = *track;
     let ahead = |by: i64| track.start() + track.speed() * by;
@@ -226,7 +228,7 @@ pub fn with_other_orders(seed: u64, sheets: Vec<Vec<u8>>) -> Vec<Vec<u8>> {
 
 /// All made-up sheets of one seed.
 pub fn all(seed: u64) -> Vec<Vec<u8>> {
-    [without_start_times(seed), late::all(seed), sides::all(seed), shapes::all(seed)].concat()
+    [without_start_times(seed), late::all(seed), sides::all(seed), shapes::all(seed), facing::all(seed)].concat()
 }
 
 /// Those that list no 03, unless damage makes one.

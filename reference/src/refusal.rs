@@ -1,4 +1,4 @@
-//! The numbers of the refusal table (SHEETS 3.1).
+//! The numbers of the refusal table (SHEETS 3.1). 11 is unused: no sheet is refused by it since tips may face.
 
 use std::fmt;
 
@@ -12,7 +12,6 @@ pub const TOO_MANY: u8 = 7;
 pub const ID_USED: u8 = 8;
 pub const START_USED: u8 = 9;
 pub const START_ON_WALL: u8 = 10;
-pub const FACING: u8 = 11;
 pub const OUTPUT_TOO_SHORT: u8 = 12;
 pub const GRID_FIGURE: u8 = 13;
 pub const OUTSIDE_GRID: u8 = 14;

@@ -1,12 +1,18 @@
 //! The roll of an accepted sheet (SHEETS 4, 5), by one sweep over time.
 //!
-//! Everything that could end a tip is listed first, whether or not it comes to pass: each wall and
-//! each other tip's line that it runs into, and the edge. In order of time, an entry ends its tip
-//! if that still runs and the other tip had not ended before it got there.
+//! What could end a tip is queued first, whether or not it comes to pass: each wall and each other
+//! tip's line that it runs into, and the edge. In order of time, an entry ends its tip if that still
+//! runs and the other tip had not ended before it got there.
+//!
+//! Only of facing tips this is not all. Where one of them has ended, the other ends too if it comes
+//! there, and that point is not known before the sweep has come to the first end. So each end puts an
+//! entry into the queue for every tip that faces the ended one. It lies ahead of the sweep.
 
 use crate::fraction::Fraction;
 use crate::plane::Vector;
 use crate::sheet::{Records, Track, Wall, MAX_COORDINATE};
+use std::cmp::Reverse;
+use std::collections::BinaryHeap;
 use std::fmt;
 
 #[derive(Clone, Copy, Debug, PartialEq, Eq)]
@@ -162,29 +168,87 @@ fn at_age(tip: &Track, age: Fraction) -> Fraction {
 }
 
 /// When tip `a` gets to a point of the line of tip `b`, when `b` got there, and from which side `a`
-/// comes, if `b` is first or both come together (SHEETS 4.5, 4.14).
+/// comes, if `b` is first or both come together (SHEETS 4.5, 4.14). Of two tips that face, this holds
+/// if nothing else ends `b` before.
 fn contact_with_track(a: &Track, b: &Track) -> Option<(Fraction, Fraction, Side)> {
-    let (v, w) = (a.speed(), b.speed());
-    let between = b.start() - a.start();
-    let turn = v.cross(w);
-    let ages = if turn == 0 {
-        ages_along_line(v, w, between)
-    } else {
-        Some((Fraction::new(between.cross(w), turn), Fraction::new(between.cross(v), turn)))
-    };
-    let (own, other) = ages.filter(|(own, other)| *own.min(other) >= Fraction::ZERO)?;
-    let (time, reached) = (at_age(a, own), at_age(b, other));
-    (reached <= time).then_some((time, reached, Side::of(v, w)))
+    let (time, reached) = match OneLine::of(a, b) {
+        None => crossing(a, b),
+        Some(OneLine::SameWay) => Some(at_front_start(a, b)),
+        Some(OneLine::Facing) => face_to_face(a, b),
+        Some(OneLine::Apart) => None,
+    }?;
+    (reached <= time).then_some((time, reached, Side::of(a.speed(), b.speed())))
 }
 
-/// The ages of two tips on one line at the start of the one in front, if they go the same way. Beyond
+/// How two tips on one line go.
+#[derive(Clone, Copy, PartialEq, Eq)]
+enum OneLine {
+    /// One behind the other.
+    SameWay,
+    /// Toward each other.
+    Facing,
+    /// Away from each other.
+    Apart,
+}
+
+impl OneLine {
+    fn of(a: &Track, b: &Track) -> Option<Self> {
+        let (v, w, between) = (a.speed(), b.speed(), b.start() - a.start());
+        let one_line = v.cross(w) == 0 && v.cross(between) == 0;
+        let way = match (v.dot(w) > 0, v.dot(between) > 0) {
+            (true, _) => OneLine::SameWay,
+            (false, true) => OneLine::Facing,
+            (false, false) => OneLine::Apart,
+        };
+        one_line.then_some(way)
+    }
+}
+
+/// When each of the two tips is where their lines cross, if neither starts behind that point.
+fn crossing(a: &Track, b: &Track) -> Option<(Fraction, Fraction)> {
+    let (v, w, between) = (a.speed(), b.speed(), b.start() - a.start());
+    let turn = v.cross(w);
+    if turn == 0 {
+        return None;
+    }
+    let (own, other) = (Fraction::new(between.cross(w), turn), Fraction::new(between.cross(v), turn));
+    (own.min(other) >= Fraction::ZERO).then(|| (at_age(a, own), at_age(b, other)))
+}
+
+/// When each of two tips that go the same way on one line is at the start of the one in front. Beyond
 /// that start no trace of one meets the other (SHEETS 4.8): if the tip in front has opened before the
 /// one behind comes, this one ends there, and otherwise the tip in front ends as it opens.
-fn ages_along_line(v: Vector, w: Vector, between: Vector) -> Option<(Fraction, Fraction)> {
-    let one_line = v.cross(between) == 0 && v.dot(w) > 0;
-    let way = |speed: Vector| Fraction::new(speed.dot(between), speed.dot(speed));
-    let ages = if v.dot(between) > 0 { (way(v), Fraction::ZERO) } else { (Fraction::ZERO, -way(w)) };
-    one_line.then_some(ages)
+fn at_front_start(a: &Track, b: &Track) -> (Fraction, Fraction) {
+    let between = b.start() - a.start();
+    let at_once = |tip: &Track| at_age(tip, Fraction::ZERO);
+    if a.speed().dot(between) > 0 {
+        (at_age(a, age_after(a, between)), at_once(b))
+    } else {
+        (at_once(a), at_age(b, age_after(b, -between)))
+    }
+}
+
+/// The age at which the tip has gone this way, which lies along its line.
+fn age_after(tip: &Track, way: Vector) -> Fraction {
+    let speed = tip.speed();
+    Fraction::new(speed.dot(way), speed.dot(speed))
+}
+
+/// When tip `a` comes upon tip `b`, which faces it, and when `b` was there. If `b` would have passed the
+/// start of `a` before `a` opens, `a` opens on the trace of `b`; if it is the other way round, this is
+/// no cause for `a`; else they come together.
+fn face_to_face(a: &Track, b: &Track) -> Option<(Fraction, Fraction)> {
+    let between = b.start() - a.start();
+    // How fast each comes nearer, where the whole way is the square of `between`.
+    let (own, other) = (a.speed().dot(between), -b.speed().dot(between));
+    let (opens, other_opens) = (i64::from(a.start_time), i64::from(b.start_time));
+    let together = Fraction::new(between.dot(between) + own * opens + other * other_opens, own + other);
+    let (opens, other_opens) = (Fraction::whole(opens), Fraction::whole(other_opens));
+    if together < opens {
+        Some((opens, at_age(b, age_after(b, -between))))
+    } else {
+        (together >= other_opens).then_some((together, together))
+    }
 }
 
 /// When the tip gets to the wall, and from which side.
@@ -232,13 +296,42 @@ fn events_of(index: usize, records: &Records) -> Vec<Event> {
     events
 }
 
+/// As a tip has ended: what becomes of the tips that face it, if they come to its end (SHEETS 4.5, 4.15). One
+/// that is there at that very time needs no new entry, since the two come together; nor does one that
+/// starts beyond, as it opens on the trace.
+fn events_at_end(ended: usize, end: Fraction, records: &Records) -> Vec<Event> {
+    let partner = &records.tracks[ended];
+    let facing = |tip: &Track| OneLine::of(tip, partner) == Some(OneLine::Facing);
+    let mut events = Vec::new();
+    for (index, tip) in records.tracks.iter().enumerate().filter(|(_, tip)| facing(tip)) {
+        let age = age_at(tip, partner.at(end));
+        // In lowest terms: such an end may in turn be one to which another tip comes.
+        let time = at_age(tip, age).reduced();
+        if age >= Fraction::ZERO && time > end {
+            let cause = Cause::Track { id: partner.id, index: ended, reached: end, side: Side::Along };
+            events.push(Event { time, id: tip.id, index, cause });
+        }
+    }
+    events
+}
+
+/// The age of the tip at a point of its line.
+fn age_at(tip: &Track, (x, y): (Fraction, Fraction)) -> Fraction {
+    let along = |to: Fraction, start: u16, speed: i8| (to - Fraction::whole(start)).over(Fraction::whole(speed));
+    if tip.vx != 0 {
+        along(x, tip.x, tip.vx)
+    } else {
+        along(y, tip.y, tip.vy)
+    }
+}
+
 /// The roll of an accepted sheet, by time and then by id (SHEETS 5.5).
 pub fn roll(records: &Records) -> Vec<Row> {
-    let mut events: Vec<Event> = (0..records.tracks.len()).flat_map(|index| events_of(index, records)).collect();
-    events.sort_unstable();
+    let events = (0..records.tracks.len()).flat_map(|index| events_of(index, records));
+    let mut queue: BinaryHeap<Reverse<Event>> = events.map(Reverse).collect();
     let mut ended: Vec<Option<Fraction>> = vec![None; records.tracks.len()];
     let mut rows = Vec::with_capacity(records.tracks.len());
-    for Event { time, index, cause, .. } in events {
+    while let Some(Reverse(Event { time, index, cause, .. })) = queue.pop() {
         let counts = match cause {
             Cause::Track { index: other, reached, .. } => ended[other].is_none_or(|end| end >= reached),
             Cause::Wall { .. } | Cause::Edge => true,
@@ -246,6 +339,7 @@ pub fn roll(records: &Records) -> Vec<Row> {
         if ended[index].is_none() && counts {
             ended[index] = Some(time);
             rows.push(Row::new(&records.tracks[index], time, ending(cause, time), cause.side()));
+            queue.extend(events_at_end(index, time, records).into_iter().map(Reverse));
         }
     }
     rows

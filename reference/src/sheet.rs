@@ -109,13 +109,6 @@ impl Track {
         let allowed = -MAX_SPEED..=MAX_SPEED;
         allowed.contains(&self.vx) && allowed.contains(&self.vy) && (self.vx, self.vy) != (0, 0)
     }
-
-    /// The two tips run toward each other on one line (SHEETS 3.6). Start times play no part.
-    fn faces(&self, other: &Track) -> bool {
-        let (v, w) = (self.speed(), other.speed());
-        let between = other.start() - self.start();
-        v.cross(w) == 0 && v.cross(between) == 0 && v.dot(between) > 0 && w.dot(between) < 0
-    }
 }
 
 impl Wall {
@@ -215,7 +208,7 @@ impl Records {
         records
     }
 
-    /// Takes the command in, or gives the first of 7, 4, 5, 6, 8, 9, 10, 11 that it breaks.
+    /// Takes the command in, or gives the first of 7, 4, 5, 6, 8, 9, 10 that it breaks.
     pub fn admit(&mut self, command: Command) -> Result<(), u8> {
         match command {
             Command::End => {}
@@ -238,8 +231,7 @@ impl Records {
         refuse_if(SPEED, !new.has_good_speed())?;
         refuse_if(ID_USED, self.tracks.iter().any(|old| old.id == new.id))?;
         refuse_if(START_USED, self.tracks.iter().any(|old| old.start() == start))?;
-        refuse_if(START_ON_WALL, self.walls.iter().any(|wall| wall.holds(start)))?;
-        refuse_if(FACING, self.tracks.iter().any(|old| old.faces(new)))
+        refuse_if(START_ON_WALL, self.walls.iter().any(|wall| wall.holds(start)))
     }
 
     fn test_wall(&self, new: &Wall) -> Result<(), u8> {

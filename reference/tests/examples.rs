@@ -1,6 +1,6 @@
 //! The sheets of examples/ as they are stored.
 
-use reference::chosen::{late, sides};
+use reference::chosen::{facing, late, sides};
 use reference::made_up;
 use reference::roll::{roll, Row, Side};
 use reference::sheet::read;
@@ -27,7 +27,9 @@ fn stored(path: &Path) -> Vec<u8> {
 
 #[test]
 fn sheets_are_the_chosen_ones() {
-    for (name, sheet) in late::examples().into_iter().chain([("sides", sides::example())]) {
+    for (name, sheet) in
+        late::examples().into_iter().chain([("sides", sides::example()), ("facing", facing::example())])
+    {
         assert_eq!(stored(&folder().join(name).with_extension("sheet")), sheet, "{name}");
     }
 }

@@ -7,7 +7,7 @@ use causes::{end, ends, End, Ends};
 use reference::chosen;
 use reference::fraction::Fraction;
 use reference::frames::{self, Frame};
-use reference::made_up::{self, late, sides};
+use reference::made_up::{self, facing, late, sides};
 use reference::rng::Rng;
 use reference::roll::{roll, roll_bytes, Ending, Row, Side};
 use reference::sheet::{commands, listing, read, Records};
@@ -53,7 +53,7 @@ fn check_roll(records: &Records) -> Vec<Row> {
 fn rolls_of_chosen_sheets_are_the_rule_s() {
     let sheets = chosen::all();
     let rolls = sheets.iter().filter_map(|sheet| read(sheet).ok()).map(|sheet| check_roll(&sheet));
-    assert!(rolls.count() > 1200);
+    assert!(rolls.count() > 3000);
 }
 
 #[test]
@@ -111,6 +111,16 @@ fn rolls_of_sheets_with_causes_at_one_time_are_the_rule_s() {
     }
 }
 
+#[test]
+fn rolls_of_sheets_with_facing_tips_are_the_rule_s() {
+    let mut rng = Rng::new(16);
+    for make in facing::MAKERS {
+        for _ in 0..1500 {
+            check_roll(&read(&make(&mut rng)).expect("accepted"));
+        }
+    }
+}
+
 /// The records of all accepted sheets and lists that the proved program is asked.
 fn asked() -> impl Iterator<Item = Records> {
     frames::all(1).into_iter().filter_map(|frame| match frame {
@@ -159,9 +169,9 @@ fn what_is_asked_has_causes_with_different_sides_at_one_time() {
     let (left, right, along) = (Side::Left, Side::Right, Side::Along);
     let different = [(left, right), (left, along), (right, left), (right, along), (along, left), (along, right)];
     let pairs = |named, other| different.map(|(one, another)| [(named, one), (other, another)]);
-    // Where a tip comes along a track to its start, no wall is: a start on a wall is refused.
-    let with_wall = pairs("track", "wall").into_iter().filter(|[(_, side), _]| *side != along);
-    let expected = pairs("track", "track").into_iter().chain(pairs("wall", "wall")).chain(with_wall);
+    // A tip comes along a track to a wall where that one faces it and the wall had ended it.
+    let classes = [("track", "track"), ("wall", "wall"), ("track", "wall")];
+    let expected = classes.into_iter().flat_map(|(named, other)| pairs(named, other));
     for pair in expected {
         assert!(counts.get(&pair).is_some_and(|count| *count > 20), "{pair:?} in {counts:?}");
     }

@@ -19,11 +19,9 @@ fn sheet_a_has_the_bytes_shown() {
 }
 
 #[test]
-fn sheets_of_the_document_are_accepted_but_the_facing_one() {
+fn sheets_of_the_document_are_accepted() {
     for (name, sheet) in document::sheets() {
-        let refusal = read(&sheet).err().map(|refusal| (refusal.number, refusal.place));
-        let expected = if name == "facing" { Some((11, 9)) } else { None };
-        assert_eq!(refusal, expected, "sheet {name}");
+        assert_eq!(read(&sheet).err(), None, "sheet {name}");
     }
 }
 
@@ -124,7 +122,7 @@ fn a_refused_sheet_of_whole_commands_is_refused_in_any_order() {
 #[test]
 fn every_refusal_of_the_reader_occurs_often() {
     for sheets in [all_sheets(), [chosen::late::sheets(), made_up::late::all(2)].concat()] {
-        let mut counts = [0; 12];
+        let mut counts = [0; 11];
         for sheet in sheets {
             let number = read(&sheet).err().map_or(0, |refusal| refusal.number);
             counts[usize::from(number)] += 1;

@@ -2,6 +2,7 @@
 
 use reference::chosen::late::{mixed, tracks_starting};
 use reference::chosen::{self, late, together, track, tracks, wall, walls};
+use reference::made_up;
 use reference::refusal::Refusal;
 use reference::sheet::{check, listing, read, write, Command, Records, Track, Wall};
 
@@ -191,8 +192,9 @@ fn start_on_a_wall_is_10_at_the_later_command() {
     }
 }
 
+/// Nothing is refused as 11 any more.
 #[test]
-fn facing_tips_are_11() {
+fn facing_tips_are_accepted() {
     let facing = [
         [track(1, 0, 0, 1, 0), track(2, 10, 0, -1, 0)],
         [track(1, 5, 90, 0, -7), track(2, 5, 3, 0, 63)],
@@ -200,22 +202,25 @@ fn facing_tips_are_11() {
         [track(1, 10, 10, -4, 6), track(2, 6, 16, 2, -3)],
     ];
     for pair in facing {
-        assert_eq!(refusal_of(&pair), Some((11, 9)), "{pair:?}");
+        assert_eq!(refusal_of(&pair), None, "{pair:?}");
         for times in [[0, 90], [90, 0], [4095, 4095]] {
             let late = pair.map(|command| command.as_track().expect("a track"));
             let late = [0, 1].map(|i| Command::LateTrack(Track { start_time: times[i], ..late[i] }));
-            assert_eq!(refusal_of(&late), Some((11, 11)), "{late:?}");
+            assert_eq!(refusal_of(&late), None, "{late:?}");
+            let records = Records::of(&late);
+            assert_eq!(check(&records.tracks, &records.walls), Ok(()));
         }
     }
-    let apart = [
-        [track(1, 0, 0, -1, 0), track(2, 10, 0, 1, 0)],
-        [track(1, 0, 0, 1, 0), track(2, 10, 0, 1, 0)],
-        [track(1, 0, 0, 1, 0), track(2, 10, 1, -1, 0)],
-        [track(1, 0, 0, 1, 0), track(2, 10, 0, -1, 1)],
-        [track(1, 10, 10, 2, 2), track(2, 13, 12, -5, -5)],
-    ];
-    for pair in apart {
-        assert_eq!(refusal_of(&pair), None, "{pair:?}");
+    // They may not start at one point, nor on a wall.
+    assert_eq!(refusal_of(&[track(1, 0, 0, 1, 0), track(2, 0, 0, -1, 0)]), Some((9, 9)));
+    assert_eq!(refusal_of(&[facing[0][0], wall(1, 10, 0, 10, 5), facing[0][1]]), Some((10, 20)));
+    assert_eq!(refusal_of(&[facing[0][0], facing[0][1], wall(1, 10, 0, 10, 5)]), Some((10, 18)));
+}
+
+#[test]
+fn no_sheet_is_refused_as_11() {
+    for sheet in [chosen::all(), made_up::all(3)].concat() {
+        assert_ne!(refusal(&sheet).map(|(number, _)| number), Some(11), "{sheet:?}");
     }
 }
 
@@ -236,21 +241,21 @@ fn the_first_rule_of_the_order_is_returned() {
 
 #[test]
 fn the_first_command_is_returned_whatever_its_number() {
-    let facing = [track(1, 0, 0, 1, 0), track(2, 10, 0, -1, 0)];
-    let then = |next| refusal_of(&[facing[0], facing[1], next]);
-    assert_eq!(then(track(3, 4096, 0, 1, 0)), Some((11, 9)));
-    assert_eq!(then(wall(1, 5, 5, 5, 5)), Some((11, 9)));
-    let mut bytes = listing(facing);
+    let on_a_wall = [track(1, 30, 40, 1, 0), wall(1, 30, 30, 30, 50)];
+    let then = |next| refusal_of(&[on_a_wall[0], on_a_wall[1], next]);
+    assert_eq!(then(track(3, 4096, 0, 1, 0)), Some((10, 9)));
+    assert_eq!(then(wall(1, 5, 5, 5, 5)), Some((10, 9)));
+    let mut bytes = listing(on_a_wall);
     bytes.push(3);
-    assert_eq!(refusal(&bytes), Some((11, 9)));
+    assert_eq!(refusal(&bytes), Some((10, 9)));
 }
 
 #[test]
 fn handed_in_records_are_refused_as_the_sheet_that_lists_them() {
-    let interleaved = [wall(1, 30, 30, 30, 50), track(1, 30, 40, 1, 0), track(2, 50, 40, -1, 0), wall(1, 7, 7, 7, 7)];
+    let interleaved = [wall(1, 30, 30, 30, 50), track(1, 30, 40, 1, 0), track(2, 30, 40, -1, 0), wall(1, 7, 7, 7, 7)];
     let tracks_first = [interleaved[1], interleaved[2], interleaved[0], interleaved[3]];
     let records = Records::of(&interleaved);
-    let expected = Err(Refusal { number: 11, place: 9 });
+    let expected = Err(Refusal { number: 9, place: 9 });
     assert_eq!(check(&records.tracks, &records.walls), expected);
     assert_eq!(read(&listing(tracks_first)).map(|_| ()), expected);
     assert_eq!(refusal_of(&interleaved), Some((10, 11)));

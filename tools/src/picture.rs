@@ -166,21 +166,45 @@ fn marks(traces: &[Trace], view: &View) -> String {
     }
     text += "</g>\n";
     text += &late_starts(traces, view);
-    for trace in traces {
+    for (index, trace) in traces.iter().enumerate() {
         let (x, y) = trace.end();
         text += &format!(
-            "<circle cx=\"{}\" cy=\"{}\" r=\"{}\" fill=\"{}\"><title>{}</title></circle>\n",
+            "<circle cx=\"{}\" cy=\"{}\" r=\"{}\" fill=\"{}\"{}><title>{}</title></circle>\n",
             x.units(),
             y.units(),
-            view.tenths(40),
+            view.tenths(radius(&traces[index..], (x, y))),
             legend::COLOURS[usize::from(trace.row.ending.kind()) - 1],
+            border(&traces[..index], trace, view),
             ending(trace)
         );
     }
     text
 }
 
-/// A hollow dot at each late start, wide enough for the mark of a tip that ends as it opens; a pointer resting on it shows
+/// How often the kind changes among the endings at this point.
+fn changes(traces: &[Trace], point: (Fraction, Fraction)) -> usize {
+    let there = traces.iter().filter(|trace| trace.end() == point);
+    let kinds: Vec<u8> = there.map(|trace| trace.row.ending.kind()).collect();
+    kinds.windows(2).filter(|pair| pair[0] != pair[1]).count()
+}
+
+/// The radius of the first of these endings' marks at this point, in tenths of a pixel: larger where others of another kind follow, so that
+/// it is seen as a ring around theirs.
+fn radius(traces: &[Trace], point: (Fraction, Fraction)) -> i64 {
+    40 + 25 * changes(traces, point).min(3) as i64
+}
+
+/// The white border of a mark that stands in a ring.
+fn border(before: &[Trace], trace: &Trace, view: &View) -> String {
+    let kind = |trace: &Trace| trace.row.ending.kind();
+    if before.iter().any(|other| other.end() == trace.end() && kind(other) != kind(trace)) {
+        format!(" stroke=\"#fff\" stroke-width=\"{}\"", view.tenths(16))
+    } else {
+        String::new()
+    }
+}
+
+/// A hollow dot at each late start, wide enough for the marks of tips that end there; a pointer resting on it shows
 /// the time.
 fn late_starts(traces: &[Trace], view: &View) -> String {
     let late: Vec<_> = traces.iter().filter(|trace| trace.is_late()).collect();
@@ -189,11 +213,12 @@ fn late_starts(traces: &[Trace], view: &View) -> String {
     }
     let mut text = format!("<g fill=\"#fff\" stroke=\"#555\" stroke-width=\"{}\">\n", view.tenths(12));
     for Trace { track, .. } in late {
+        let start = (Fraction::whole(track.x), Fraction::whole(track.y));
         text += &format!(
             "<circle cx=\"{}\" cy=\"{}\" r=\"{}\"><title>track {} starts at {}</title></circle>\n",
             track.x,
             track.y,
-            view.tenths(50),
+            view.tenths(10 + radius(traces, start)),
             track.id,
             track.start_time
         );

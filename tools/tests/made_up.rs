@@ -1,18 +1,19 @@
 //! Made-up sheets with their rolls from the reference implementation.
 
 use reference::cells::count;
-use reference::made_up::{accepted, late};
+use reference::made_up::{accepted, facing, late};
 use reference::rng::Rng;
 use reference::roll::{roll as rows_of, Row};
 use reference::sheet::{listing as bytes_of, read, Records};
 use sheet_tools::{listing, picture, roll, sheet, trace};
 
-/// Accepted sheets from a seed, those after the first 500 with start times.
+/// Accepted sheets from a seed, those after the first 500 with start times, after the first 1000 with facing tips.
 fn sheets() -> impl Iterator<Item = Vec<u8>> {
     let mut rng = Rng::new(1);
-    (0..1000).map(move |number| match number {
+    (0..1300).map(move |number| match number {
         0..500 => accepted(&mut rng),
-        _ => late::MAKERS[number % late::MAKERS.len()](&mut rng),
+        500..1000 => late::MAKERS[number % late::MAKERS.len()](&mut rng),
+        _ => facing::MAKERS[number % facing::MAKERS.len()](&mut rng),
     })
 }
 

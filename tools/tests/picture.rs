@@ -61,6 +61,22 @@ fn late_starts_are_hollow_with_their_times() {
     assert!(!picture("A", &[]).unwrap().contains("late start"));
 }
 
+#[test]
+fn endings_of_two_kinds_at_one_point_are_rings() {
+    let svg = picture("late", &[]).unwrap();
+    let radius = |words: &str| {
+        let circle = svg.lines().find(|line| line.contains(words)).unwrap();
+        let (_, rest) = circle.split_once(" r=\"").unwrap();
+        rest.split_once('"').unwrap().0.parse::<f64>().unwrap()
+    };
+    // At the edge, where 1 opens and ends, 2 ends on it later.
+    let (edge, trace, start) = (radius("track 1 ends"), radius("track 2 ends"), radius("track 1 starts"));
+    assert!(1.5 * trace < edge && edge < start);
+    // 3 and 4 meet.
+    assert!(radius("track 3 ends") == trace && radius("track 4 ends") == trace);
+    assert_eq!(svg.matches(" stroke=\"#fff\"").count(), 1);
+}
+
 /// The letters of the sides in a picture, in the roll's order.
 fn letters(svg: &str) -> String {
     let group = svg.split("font-size=\"10\" text-anchor=\"middle\">\n").nth(1).unwrap().split("</g>").next().unwrap();
@@ -71,7 +87,7 @@ fn letters(svg: &str) -> String {
 fn sides_are_letters_at_the_ends() {
     let drawn = |name| letters(&picture(name, &[]).unwrap());
     assert_eq!(["B", "E", "H1", "J"].map(drawn), ["LR", "LLLL", "L", "R"]);
-    assert_eq!(drawn("sides"), "LRALR");
+    assert_eq!([drawn("sides"), drawn("facing")], ["LRALR", "AARRARAL"]);
     // A tip that ends as it opens has no trace for a letter to stand beside, and the edge has no side.
     assert_eq!(["behind", "opening", "late", "I2"].map(drawn), ["AALL", "LRL", "LRR", ""]);
     let legend = ">from left, right, along</text>";
@@ -91,6 +107,7 @@ fn sides_are_told_where_the_pointer_rests() {
     tells("sides", "track 1 ends at wall 1 from its left, time 10/1");
     tells("sides", "track 2 ends at wall 2 from its right, time 10/1");
     tells("sides", "track 3 ends at wall 3 along its line, time 10/1");
+    tells("facing", "track 3 ends at trace 4 along its line, time 8/1");
 }
 
 #[test]
@@ -170,8 +187,8 @@ fn notes_stand_in_the_view() {
 #[test]
 fn refused_and_foreign_rolls_are_errors() {
     let wrong = [
-        (picture("facing", &[]), "roll refused the sheet: 11, place 9"),
-        (picture_with("A", "facing", &[]), "roll refused the sheet: 11, place 9"),
+        (picture("refused", &[]), "roll refused the sheet: 10, place 9"),
+        (picture_with("A", "refused", &[]), "roll refused the sheet: 10, place 9"),
         (picture_with("A", "D", &[]), "2 tracks in the sheet, 64 rows"),
         (picture_with("A", "F", &[]), "row of track 2: its end point is not at its time"),
     ];
@@ -224,7 +241,7 @@ fn ids_stand_apart() {
         ids.len()
     });
     // There is no room for half of D's ids with two digits, nor for F's wall between trace 1 and the edge.
-    assert_eq!(found, [2, 2, 2, 36, 4, 2, 2, 2, 2, 1, 1, 2, 0, 4, 6, 6, 7, 4, 9]);
+    assert_eq!(found, [2, 2, 2, 36, 4, 2, 2, 2, 2, 1, 1, 2, 0, 4, 6, 6, 7, 4, 9, 12]);
 }
 
 #[test]

@@ -1,22 +1,22 @@
 //! The made-up inputs: mostly small sheets on few lines, where equal times, meetings, wall ends and borders are common.
 
 use reference::made_up::entering::{entering, entering_late};
-use reference::made_up::{self, late, shapes, sides, BORDERS, COARSE, GROUNDS, TINY};
+use reference::made_up::{self, facing, late, shapes, sides, BORDERS, COARSE, GROUNDS, TINY};
 use reference::rng::Rng;
 use reference::sheet::{listing, Command, Records, Track, Wall};
 
 pub fn undamaged(rng: &mut Rng) -> Vec<u8> {
     if rng.one_in(2) {
-        with_start_times(rng)
+        late_or_facing(rng)
     } else {
         at_once(rng)
     }
 }
 
-/// Tips that open later: on traces, on one line with others, together with them, at the edge; traces without length; and causes of
-/// different sides at one time.
-fn with_start_times(rng: &mut Rng) -> Vec<u8> {
-    match rng.below(20) {
+/// Tips that open later: on traces, on one line with others, together with them, at the edge; traces without length; causes of
+/// different sides at one time; and tips that face each other.
+fn late_or_facing(rng: &mut Rng) -> Vec<u8> {
+    match rng.below(25) {
         0 if rng.one_in(50) => late::large(rng),
         0..=9 => rng.pick(&late::MAKERS)(rng),
         10 | 11 => rng.pick(&sides::MAKERS)(rng),
@@ -24,7 +24,8 @@ fn with_start_times(rng: &mut Rng) -> Vec<u8> {
         14..=16 => entering_late(rng).sheet,
         17 => late::nearly_accepted(rng),
         18 => late::doubtful(rng),
-        _ => late::provoked(rng),
+        19 => late::provoked(rng),
+        _ => rng.pick(&facing::MAKERS)(rng),
     }
 }
 

@@ -128,7 +128,7 @@ fn main() -> ExitCode {
 
     let Tally { accepted, kinds, sides, .. } = tally;
     println!("{accepted} inputs accepted; rows of kinds 1 to 4: {:?}; of sides 0 to 3: {sides:?}", &kinds[1..]);
-    println!("calls answered 0 to 14: {:?}", tally.answers);
+    println!("calls answered 0 to 14, of which 11 is unused: {:?}", tally.answers);
     let rate = count as f64 / seconds;
     println!("{count} inputs, {} differences, {seconds:.1} s, {rate:.0} a second", tally.differences);
     ExitCode::from(u8::from(tally.differences > 0))

@@ -1,14 +1,13 @@
 -- What the answers of `contact` say when they are matched: offers of the edge, a wall, a track.
-use mathlib.Core.Logic.{_⊎_}
 use mathlib.Core.Path.{_≡_, refl, sym, ap, _∙_, subst}
 use Prim.Native.Nat.{ℕ}
 use native.Mathlib.Omega.{arith}
 use Rattle.fraction.specs.declared.Fraction.{Fraction}
-use Rattle.fraction.specs.Time.{Time, _≤ᵗ_, _<ᵗ_, asTime}
+use Rattle.fraction.specs.Time.{Time, asTime}
 use Rattle.sheet.specs.declared.Track.{Track}
 use Rattle.sheet.specs.declared.Wall.{Wall}
 use Rattle.fraction.specs.Sizes.{Timely}
-use Rattle.contact.specs.Answers.{quotOf, touchOf, strikeOf, MomentTimely, TouchTimely, StrikeTimely, HitFrom, StruckFrom}
+use Rattle.contact.specs.Answers.{quotOf, touchOf, strikeOf, MomentTimely, TouchTimely, StrikeTimely, StruckFrom}
 use Rattle.contact.specs.declared.Moment.{Moment}
 use Rattle.contact.specs.declared.Moment.the-variants.{Never, At}
 use Rattle.contact.specs.declared.Touch.{Touch}
@@ -16,13 +15,13 @@ use Rattle.contact.specs.declared.Touch.the-variants.{Nowhere, Hit}
 use Rattle.contact.specs.declared.Strike.{Strike}
 use Rattle.contact.specs.declared.Strike.the-variants.{Missed, Struck}
 use Rattle.rule.specs.declared.Side.{Side}
-use Rattle.rule.specs.Side.{trackSide, wallSide, sideNumber}
-use Rattle.rule.specs.Contact.{Quot, never, when, Contact, nowhere, hit, contact}
+use Rattle.rule.specs.Side.{wallSide, sideNumber}
+use Rattle.rule.specs.Contact.{Quot, never, when, Contact, nowhere}
 use Rattle.rule.specs.EdgeTime.{rim}
 use Rattle.rule.specs.WallTime.{wallTime}
 use Rattle.cause.specs.declared.Cause.{Cause}
 use Rattle.cause.specs.Cause.{Least}
-use Rattle.cause.specs.Offer.{unused, edgeCause, AtEdge, wallCause, WallOffered, struck, Reached, itself, missed, void, met}
+use Rattle.cause.specs.Offer.{unused, edgeCause, AtEdge, wallCause, WallOffered, struck, Reached, itself, comes}
 
 pub unused-timely : Timely unused
 unused-timely = record { num-in = omega arith; den-in = omega arith; den-pos = omega arith }
@@ -37,15 +36,8 @@ module _ {m : Moment} {t : Fraction} (e : m ≡ At t) where
 pub never-quot : {m : Moment} {q : Quot} → m ≡ Never → quotOf m ≡ q → q ≡ never
 never-quot e h = sym h ∙ ap quotOf e
 
-module _ {t : Touch} {u s : Fraction} {d : Side} (e : t ≡ Hit u s d) where
-  pub hit-contact : {q : Contact} → touchOf t ≡ q → q ≡ hit (asTime u) (asTime s)
-  hit-contact h = sym h ∙ ap touchOf e
-
-  pub hit-timely : TouchTimely t → Timely u × Timely s
-  hit-timely h = subst TouchTimely e h
-
-  hit-side : {f : Side} → HitFrom f t → d ≡ f
-  hit-side {f} h = subst (HitFrom f) e h
+pub hit-timely : {t : Touch} {u s : Fraction} {d : Side} → t ≡ Hit u s d → TouchTimely t → Timely u × Timely s
+hit-timely e h = subst TouchTimely e h
 
 module _ {m : Strike} {u : Fraction} {d : Side} (e : m ≡ Struck u d) where
   pub struck-timely : StrikeTimely m → Timely u
@@ -72,15 +64,6 @@ edge-at a {m} {u} e s h =
 pub wall-at : {a : Track} {w : Wall} {k : ℕ} {c r : Cause} {m : Strike} {u : Fraction} {d : Side} → m ≡ Struck u d → (strikeOf m ≡ wallTime a w) × StrikeTimely m × StruckFrom (wallSide a w) m → Least c (wallCause w k u (sideNumber d)) r → WallOffered a w k c r
 wall-at {w = w} {k = k} {c = c} {r = r} {u = u} e h l = struck u (sym (h .0) ∙ ap strikeOf e) (struck-timely e (h .1)) (subst (λ (z : Side). Least c (wallCause w k u (sideNumber z)) r) (struck-side e (h .2)) l)
 
-module _ {a b : Track} {ended : ℕ} {end : Fraction} {t : Touch} where
-  pub reached-hit : {u s : Fraction} {d : Side} → t ≡ Hit u s d → (touchOf t ≡ contact a b) × TouchTimely t × HitFrom (trackSide a b) t → (b .id ≡ a .id → ⊥) → (ended ≡ 0) ⊎ ((ended ≡ 0 → ⊥) × (asTime s ≤ᵗ asTime end)) → Reached a b ended end (Hit u s d)
-  reached-hit {u} {s} e h n q = let (p, g) = hit-timely e (h .1) in met u s n (hit-contact e (h .0)) q p g (ap (Hit u s) (hit-side e (h .2)))
-
-  pub reached-void : {u s : Fraction} {d : Side} → t ≡ Hit u s d → touchOf t ≡ contact a b → (ended ≡ 0 → ⊥) → asTime end <ᵗ asTime s → Reached a b ended end Nowhere
-  reached-void {u} {s} e h n l = void (asTime u) (asTime s) (hit-contact e h) n l refl
-
-  pub reached-timely : Reached a b ended end t → TouchTimely t
-  reached-timely (itself e x) = subst TouchTimely (sym x) tt
-  reached-timely (missed e x) = subst TouchTimely (sym x) tt
-  reached-timely (void u s e n l x) = subst TouchTimely (sym x) tt
-  reached-timely (met u s n e q p g x) = subst TouchTimely (sym x) (p, g)
+pub reached-timely : {a b : Track} {ended : ℕ} {end : Fraction} {t : Touch} → Reached a b ended end t → TouchTimely t
+reached-timely (itself e x) = subst TouchTimely (sym x) tt
+reached-timely (comes n e h g) = h

@@ -1,38 +1,39 @@
 -- Looking at one cause more. Main theorems: `edge-first`, `wall-next`, `tip-looked`, and `walls-then`, `then` (one look after another).
 use mathlib.Core.List.{List}
 use mathlib.Core.Logic.{_⊎_, inl, inr, _≢_}
-use mathlib.Core.Path.{_≡_, refl, sym, ap, subst}
+use mathlib.Core.Path.{_≡_, refl, sym, ap, _∙_, subst}
 use Prim.Native.Nat.{ℕ, zero, suc, _<_}
 use native.Mathlib.Omega.{arith}
 use lib.ListN.{length}
 use Rattle.fraction.specs.Sizes.{Timely}
 use Rattle.fraction.specs.declared.Fraction.{Fraction}
 use Rattle.fraction.specs.Time.{Time, _≤ᵗ_, _≈ᵗ_, asTime}
-use Rattle.fraction.proofs.TimeOrder.{≈ᵗ-sym, ≈ᵗ→≤ᵗ, ≤ᵗ-trans, ≤ᵗ-<ᵗ-trans, ≈ᵗ-refl}
+use Rattle.fraction.proofs.TimeOrder.{≈ᵗ-refl}
 use Rattle.sheet.specs.Accepted.{Accepted}
 use Rattle.sheet.specs.Listing.{Listing, _∈_}
 use Rattle.sheet.specs.HandedIn.{noTrack, noWall}
 use Rattle.sheet.specs.declared.Track.{Track}
 use Rattle.sheet.specs.declared.Wall.{Wall}
 use Rattle.sheet.proofs.Lists.{mem-at, at-mem}
-use Rattle.contact.specs.Answers.{TouchTimely}
+use Rattle.contact.specs.Answers.{touchOf, TouchTimely, HitFrom}
 use Rattle.contact.specs.declared.Touch.{Touch}
 use Rattle.contact.specs.declared.Touch.the-variants.{Nowhere, Hit}
 use Rattle.rule.specs.declared.Row.{Row}
 use Rattle.rule.specs.Causes as rule
-use Rattle.rule.specs.Causes.{Cand, by-tip, by-bar, by-rim, Below, _≼_, upTo}
-use Rattle.rule.specs.Contact.{when, never, hit, contact}
+use Rattle.rule.specs.Causes.{Cand, by-tip, by-bar, by-rim, Below, _≼_, upTo, endOf}
+use Rattle.rule.specs.declared.Side.{Side}
+use Rattle.rule.specs.Contact.{when, never, hit, contactTo}
 use Rattle.rule.specs.EdgeTime.{rim}
 use Rattle.rule.specs.WallTime.{wallTime}
 use Rattle.rule.specs.Side.{trackSide, wallSide, sideNumber}
 use Rattle.rule.proofs.Existence.{cand-trans}
-use Rattle.rule.proofs.OnSheet.{contact-of, contact-hit}
-use Rattle.rule.specs.Meanwhile.{Formal, Beats, Fresh, Live}
-use Rattle.rule.proofs.Selection.{up-fresh}
-use Rattle.rule.proofs.Turn.{beats-better, beats-none, beats-hit, beats-void}
+use Rattle.rule.proofs.OnSheet.{comes-of, comes-hit}
+use Rattle.rule.specs.Meanwhile.{OpenedBy, Arrives, Formal, Beats, Fresh, Live}
+use Rattle.rule.proofs.Selection.{up-end, end-fresh, until-up}
+use Rattle.rule.proofs.Turn.{beats-better, beats-none, beats-hit}
 use Rattle.cause.specs.declared.Cause.{Cause}
 use Rattle.cause.specs.Cause.{tipAt, wallAt, whyOf, candOf, Fine, Stands, Least}
-use Rattle.cause.specs.Offer.{edgeCause, AtEdge, wallCause, WallOffered, passed, struck, tipCause, Reached, itself, missed, void, met, Taken, TipOffered}
+use Rattle.cause.specs.Offer.{edgeCause, AtEdge, wallCause, WallOffered, passed, struck, tipCause, endIf, Reached, itself, comes, Taken, TipOffered}
 use Rattle.cause.specs.Looked.{Gone, FirstOfTracks}
 use Rattle.cause.proofs.Answers.{unused-timely, reached-timely}
 use Rattle.cause.proofs.First.{≼-self, first-stands, first-left, first-right}
@@ -157,6 +158,10 @@ module _ (S : Listing) (acc : Accepted S) (a : Track) (k : ℕ) (in-walls : k < 
 
 -- ---- tracks
 
+-- what an ended tip has come to at any time
+pub gone-at : {done : List Row} {b : Track} {t : Fraction} → Gone done b t → (u : Time) → upTo done u (b .id) ≡ asTime t
+gone-at {done} {b} {t} g u = up-end done (b .id) u (asTime t) (g .ends)
+
 module _ {S : Listing} {done : List Row} {a : Track} {K : ℕ → Type 0} where
   pub then : {K′ : ℕ → Type 0} {c d r : Cause} → FirstOfTracks S done a K c d → FirstOfTracks S done a K′ d r → FirstOfTracks S done a (λ (j : ℕ). K j ⊎ K′ j) c r
   then {K′} {c} {d} {r} p q =
@@ -177,6 +182,25 @@ module _ {S : Listing} {done : List Row} {a : Track} {K : ℕ → Type 0} where
   pub none : {c : Cause} → ((j : ℕ) → K j → ⊥) → Stands S a c → FirstOfTracks S done a K c c
   none {c} f s = record { stands = s; first = ≼-self (candOf S c); live = λ h. h; at-tips = λ j l k. absurd (f j k) }
 
+-- tip b has not ended (`ended` is 0), or has at `end`
+module _ {b : Track} {ended : ℕ} {end : Fraction} {done : List Row} (fresh : ended ≡ 0 → Fresh done b) (gone : (ended ≡ 0 → ⊥) → Gone done b end) where
+  -- its end in the rule
+  end-is : endOf done (b .id) ≡ endIf ended end
+  unfolding endIf
+  end-is = go ended fresh gone
+    where
+      go : (n : ℕ) → (n ≡ 0 → Fresh done b) → ((n ≡ 0 → ⊥) → Gone done b end) → endOf done (b .id) ≡ endIf n end
+      go zero f g = end-fresh done b (f refl)
+      go (suc n) f g = g (λ z. omega arith) .ends
+
+  pub end-opened : OpenedBy b (endOf done (b .id))
+  unfolding endIf
+  end-opened = go ended gone end-is
+    where
+      go : (n : ℕ) → ((n ≡ 0 → ⊥) → Gone done b end) → endOf done (b .id) ≡ endIf n end → OpenedBy b (endOf done (b .id))
+      go zero g e = subst (OpenedBy b) (sym e) tt
+      go (suc n) g e = subst (OpenedBy b) (sym e) (g (λ z. omega arith) .closed .opened)
+
 module _ (S : Listing) (acc : Accepted S) (a : Track) (here : a ∈ S .tracks) (k : ℕ) (in-tracks : k < length (S .tracks)) where
   abbrev b : Track
   b = tipAt S k
@@ -184,7 +208,7 @@ module _ (S : Listing) (acc : Accepted S) (a : Track) (here : a ∈ S .tracks) (
   there : b ∈ S .tracks
   there = mem-at noTrack (S .tracks) k in-tracks
 
-  tip-stands : (u s : Fraction) → b .id ≢ a .id → Timely u → Timely s → contact a b ≡ hit (asTime u) (asTime s) → Stands S a (tipCause b k u s (sideNumber (trackSide a b)))
+  tip-stands : (u s : Fraction) → b .id ≢ a .id → Timely u → Timely s → Arrives a b (asTime u) (asTime s) → Stands S a (tipCause b k u s (sideNumber (trackSide a b)))
   unfolding whyOf
   tip-stands u s n h g e =
       record {
@@ -198,7 +222,7 @@ module _ (S : Listing) (acc : Accepted S) (a : Track) (here : a ∈ S .tracks) (
       }
 
   -- the tip at k has not ended (`ended` is 0), or has at `end`
-  module _ (ended : ℕ) (end : Fraction) (done : List Row) (fresh : ended ≡ 0 → Fresh done b) (gone : (ended ≡ 0 → ⊥) → Gone done b (asTime end)) where
+  module _ (ended : ℕ) (end : Fraction) (done : List Row) (fresh : ended ≡ 0 → Fresh done b) (gone : (ended ≡ 0 → ⊥) → Gone done b end) where
     -- nothing more to beat
     tip-skip : {c : Cause} → Stands S a c → (b .id ≢ a .id → Beats done (candOf S c) a b) → FirstOfTracks S done a (λ (j : ℕ). j ≡ k) c c
     tip-skip {c} s f =
@@ -209,22 +233,16 @@ module _ (S : Listing) (acc : Accepted S) (a : Track) (here : a ∈ S .tracks) (
           at-tips = λ j i m. subst (λ (i : ℕ). tipAt S i .id ≢ a .id → Beats done (candOf S c) a (tipAt S i)) (sym m) f;
         }
 
-    -- its own end, against the time at which the tip at k was there
-    tip-live : (u s : Time) → b .id ≢ a .id → contact a b ≡ hit u s → (ended ≡ 0) ⊎ ((ended ≡ 0 → ⊥) × (s ≤ᵗ asTime end)) → s ≤ᵗ upTo done u (b .id)
-    tip-live u s n h (inl x) =
-        subst (λ (z : Time). s ≤ᵗ z) (sym (up-fresh u done b (fresh x))) (contact-hit (contact a b) (contact-of acc here b there n) h .1)
-    tip-live u s n h (inr (x, y)) = ≤ᵗ-trans y (≈ᵗ→≤ᵗ (≈ᵗ-sym (gone x .stops u)))
-
-    tip-hit : {c r : Cause} (u s : Fraction) → Stands S a c → b .id ≢ a .id → contact a b ≡ hit (asTime u) (asTime s) → (ended ≡ 0) ⊎ ((ended ≡ 0 → ⊥) × (asTime s ≤ᵗ asTime end)) → Timely u → Timely s →
-        Least c (tipCause b k u s (sideNumber (trackSide a b))) r → FirstOfTracks S done a (λ (j : ℕ). j ≡ k) c r
+    tip-hit : {c r : Cause} (u s : Fraction) → Stands S a c → b .id ≢ a .id → contactTo a b (endOf done (b .id)) ≡ hit (asTime u) (asTime s) → Timely u → Timely s → Least c (tipCause b k u s (sideNumber (trackSide a b))) r → FirstOfTracks S done a (λ (j : ℕ). j ≡ k) c r
     unfolding whyOf
-    tip-hit {c} {r} u s p n e q h g l =
-        let w = tip-stands u s n h g e in
+    tip-hit {c} {r} u s p n e h g l =
+        let (same, o, ran) = comes-hit (endOf done (b .id)) (contactTo a b (endOf done (b .id))) (comes-of acc here b there n (endOf done (b .id)) (end-opened fresh gone)) e in
+        let w = tip-stands u s n h g (record { end = endOf done (b .id); opened-by = end-opened fresh gone; hits = e }) in
         let right : Below (candOf S r) (asTime u) (by-tip b (asTime s)) = first-right S a p w l in
         record {
           stands = first-stands S a p w l;
           first = first-left S a p w l;
-          live = λ y. go y (tip-live (asTime u) (asTime s) n e q) l;
+          live = λ y. go y (until-up done (b .id) (asTime u) (asTime s) o ran) l;
           at-tips = λ j i m. subst (λ (i : ℕ). tipAt S i .id ≢ a .id → Beats done (candOf S r) a (tipAt S i)) (sym m) (λ y. beats-hit (asTime u) (asTime s) e right);
         }
       where
@@ -232,12 +250,13 @@ module _ (S : Listing) (acc : Accepted S) (a : Track) (here : a ∈ S .tracks) (
         go y z (inl (x, _)) = subst (λ (z : Cause). Live done (candOf S z .u) (candOf S z .why)) (sym x) y
         go y z (inr (x, _)) = subst (λ (z : Cause). Live done (candOf S z .u) (candOf S z .why)) (sym x) z
 
+    tip-comes : {c r : Cause} (t : Touch) → Stands S a c → b .id ≢ a .id → touchOf t ≡ contactTo a b (endOf done (b .id)) → TouchTimely t → HitFrom (trackSide a b) t → Taken b k t c r → FirstOfTracks S done a (λ (j : ℕ). j ≡ k) c r
+    tip-comes {c} Nowhere s n e h g l = subst (FirstOfTracks S done a (λ (j : ℕ). j ≡ k) c) (sym l) (tip-skip s (λ x. beats-none (sym e)))
+    tip-comes {c} {r} (Hit u v d) s n e h g l = tip-hit u v s n (sym e) (h .0) (h .1) (subst (λ (z : Side). Least c (tipCause b k u v (sideNumber z)) r) g l)
+
     tip-taken : {c r : Cause} {t : Touch} → Stands S a c → Reached a b ended end t → Taken b k t c r → FirstOfTracks S done a (λ (j : ℕ). j ≡ k) c r
     tip-taken {c} {r} s (itself e x) l = subst (FirstOfTracks S done a (λ (j : ℕ). j ≡ k) c) (sym (subst (λ (z : Touch). Taken b k z c r) x l)) (tip-skip s (λ n. absurd (n e)))
-    tip-taken {c} {r} s (missed e x) l = subst (FirstOfTracks S done a (λ (j : ℕ). j ≡ k) c) (sym (subst (λ (z : Touch). Taken b k z c r) x l)) (tip-skip s (λ n. beats-none e))
-    tip-taken {c} {r} s (void u v e n h x) l =
-        subst (FirstOfTracks S done a (λ (j : ℕ). j ≡ k) c) (sym (subst (λ (z : Touch). Taken b k z c r) x l)) (tip-skip s (λ y. beats-void u v e (≤ᵗ-<ᵗ-trans (≈ᵗ→≤ᵗ (gone n .stops u)) h)))
-    tip-taken {c} {r} s (met u v n e q h g x) l = tip-hit u v s n e q h g (subst (λ (z : Touch). Taken b k z c r) x l)
+    tip-taken {t = t} s (comes n e h g) l = tip-comes t s n (e ∙ ap (contactTo a b) (sym (end-is fresh gone))) h g l
 
     pub tip-looked : {c r : Cause} → Stands S a c → TipOffered a b k ended end c r → FirstOfTracks S done a (λ (j : ℕ). j ≡ k) c r
     tip-looked s o = tip-taken s (o .reached) (o .taken)

@@ -4,17 +4,19 @@ use mathlib.Core.Logic.{_⊎_, _≢_}
 use mathlib.Core.List.{List}
 use Prim.Native.Nat.{ℕ, _≤_, _<_}
 use lib.ListN.{length}
-use Rattle.fraction.specs.Time.{Time, _≈ᵗ_}
+use Rattle.fraction.specs.declared.Fraction.{Fraction}
+use Rattle.fraction.specs.Time.{Time, asTime}
 use Rattle.sheet.specs.declared.Track.{Track}
 use Rattle.sheet.specs.declared.Wall.{Wall}
 use Rattle.sheet.specs.Listing.{Listing, _∈_}
 use Rattle.rule.specs.declared.Row.{Row}
-use Rattle.rule.specs.Causes.{by-bar, Below, _≼_, upTo}
+use Rattle.rule.specs.Causes.{by-bar, Below, _≼_, endOf}
 use Rattle.rule.specs.Contact.{when}
 use Rattle.rule.specs.WallTime.{wallTime}
 use Rattle.rule.specs.Meanwhile.{Beats, Live}
 use Rattle.cause.specs.declared.Cause.{Cause}
 use Rattle.cause.specs.declared.Region.{Region}
+use Rattle.cause.specs.Offer.{Closed}
 use Rattle.cause.specs.Cause.{tipAt, wallAt, candOf, Stands}
 
 -- ---- walls
@@ -37,11 +39,12 @@ pub record FirstOfWalls (S : Listing) (a : Track) (p : Region) (c r : Cause) : T
 -- ---- tracks
 
 -- tip b has ended at t
-pub record Gone (done : List Row) (b : Track) (t : Time) : Type 0 where
+pub record Gone (done : List Row) (b : Track) (t : Fraction) : Type 0 where
   pub row : Row
   pub written : row ∈ done
   pub named : row .id ≡ b .id
-  pub stops : (u : Time) → upTo done u (b .id) ≈ᵗ t
+  pub ends : endOf done (b .id) ≡ when (asTime t)
+  pub closed : Closed b t
 
 -- r is the first of c and the tracks that K names, and counts if c does
 pub record FirstOfTracks (S : Listing) (done : List Row) (a : Track) (K : ℕ → Type 0) (c r : Cause) : Type 0 where

@@ -1,16 +1,17 @@
 -- One more cause beside the first so far: the edge, a wall, a track.
 use mathlib.Core.Path.{_≡_}
-use mathlib.Core.Logic.{_⊎_}
-use Prim.Native.Nat.{ℕ}
+use Prim.Native.Nat.{ℕ, zero, suc}
 use Rattle.fraction.specs.declared.Fraction.{Fraction}
-use Rattle.fraction.specs.Time.{Time, _≤ᵗ_, _<ᵗ_, asTime}
+use Rattle.fraction.specs.Time.{_≤ᵗ_, asTime}
 use Rattle.sheet.specs.declared.Track.{Track}
 use Rattle.sheet.specs.declared.Wall.{Wall}
-use Rattle.rule.specs.Contact.{never, when, nowhere, hit, contact}
+use Rattle.rule.specs.Motion.{opening}
+use Rattle.rule.specs.Contact.{Quot, never, when, contactTo}
 use Rattle.rule.specs.WallTime.{wallTime}
 use Rattle.rule.specs.EdgeTime.{rim}
 use Rattle.rule.specs.Side.{trackSide, wallSide, sideNumber}
-use Rattle.fraction.specs.Sizes.{Timely}
+use Rattle.fraction.specs.Sizes.{Small, Timely}
+use Rattle.contact.specs.Answers.{touchOf, TouchTimely, HitFrom}
 use Rattle.contact.specs.declared.Touch.{Touch}
 use Rattle.contact.specs.declared.Touch.the-variants.{Nowhere, Hit}
 use Rattle.cause.specs.declared.Cause.{Cause}
@@ -41,12 +42,20 @@ pub data WallOffered (a : Track) (w : Wall) (k : ℕ) (c r : Cause) : Type 0 whe
 abbrev pub tipCause : Track → ℕ → Fraction → Fraction → ℕ → Cause
 tipCause b k u s side = record { at = u; class = 0; id = b .id; who = k; there = s; side = side }
 
--- t is where tip a comes to the trace of b: nowhere if tip b, which has ended at `end` unless `ended` is 0, ended before it would have been there (SHEETS 4.5)
+-- the time of a tip that has ended: that of a row, no sooner than it opened
+pub record Closed (b : Track) (t : Fraction) : Type 0 where
+  pub small : Small t
+  pub opened : opening b ≤ᵗ asTime t
+
+-- the end of a tip that has ended at `end`, unless `ended` is 0
+unfoldable pub endIf : ℕ → Fraction → Quot
+endIf zero end = never
+endIf (suc n) end = when (asTime end)
+
+-- t is where tip a comes to the trace of tip b, as far as that has come (SHEETS 4.5), and from which side
 pub data Reached (a b : Track) (ended : ℕ) (end : Fraction) (t : Touch) : Type 0 where
   itself : b .id ≡ a .id → t ≡ Nowhere → Reached a b ended end t
-  missed : contact a b ≡ nowhere → t ≡ Nowhere → Reached a b ended end t
-  void : (u s : Time) → contact a b ≡ hit u s → (ended ≡ 0 → ⊥) → asTime end <ᵗ s → t ≡ Nowhere → Reached a b ended end t
-  met : (u s : Fraction) → (b .id ≡ a .id → ⊥) → contact a b ≡ hit (asTime u) (asTime s) → (ended ≡ 0) ⊎ ((ended ≡ 0 → ⊥) × (asTime s ≤ᵗ asTime end)) → Timely u → Timely s → t ≡ Hit u s (trackSide a b) → Reached a b ended end t
+  comes : (b .id ≡ a .id → ⊥) → touchOf t ≡ contactTo a b (endIf ended end) → TouchTimely t → HitFrom (trackSide a b) t → Reached a b ended end t
 
 -- r is the first of c and the track b, which the tip comes to by t
 abbrev pub Taken : Track → ℕ → Touch → Cause → Cause → Type 0

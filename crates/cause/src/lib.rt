@@ -3,10 +3,9 @@ ghost use mathlib.Core.Path.{_≡_};
 ghost use mathlib.Core.Bool.{true, false};
 ghost use Prim.Native.Nat.{_<_};
 ghost use Rattle.sheet.specs.Accepted.{TrackOk, WallOk};
-ghost use Rattle.fraction.specs.Sizes.{Timely};
 ghost use Rattle.contact.specs.Answers.{TouchTimely};
 ghost use Rattle.cause.specs.Cause.{Fine, Tells, Least};
-ghost use Rattle.cause.specs.Offer.{AtEdge, WallOffered, Reached, Taken};
+ghost use Rattle.cause.specs.Offer.{AtEdge, WallOffered, Closed, Reached, Taken};
 ghost use Rattle.cause.specs.Looked.{Reaches};
 use contact::Moment;
 use contact::Strike;
@@ -118,9 +117,10 @@ pub fn with_wall(c: Cause, a: Track, w: Wall, k: usize) -> Cause
     }
 }
 
-// Where tip a comes to the trace of b: nowhere if that is its own, or if b's tip ended, at `end`, before it was there.
+// Where tip a comes to the trace of b: nowhere if that is its own. If b's tip ended, at `end`, before it was there, a may still come to
+// the point at which it ended.
 pub fn on_trace(a: Track, b: Track, ended: u64, end: Fraction) -> Touch
-    requires { ⌜ TrackOk a × TrackOk b × ((ended ≡ 0 → ⊥) → Timely end) ⌝ }
+    requires { ⌜ TrackOk a × TrackOk b × ((ended ≡ 0 → ⊥) → Closed b end) ⌝ }
     ensures { λ r. ⌜ Reached a b ended end r ⌝ }
 {
     if b.id == a.id {
@@ -135,7 +135,7 @@ pub fn on_trace(a: Track, b: Track, ended: u64, end: Fraction) -> Touch
             if fraction::not_later(there, end) {
                 return Touch::Hit { at, there, side };
             }
-            Touch::Nowhere
+            arrival::arrive(a, b, end)
         }
     }
 }

@@ -115,7 +115,7 @@ pub opened-gives : (n : ℕ) (k : Onset) {t : Fraction} → Early k → n ≤ 40
 opened-gives n k h l e =
     record {
       is = ap (λ (z : Fraction). onset z (k .late)) e;
-      ready = subst (λ (z : Fraction). Ready (onset z (k .late))) (sym e) (record { num-in = later-in (k .at .num) (k .at .den) n (h .num-in) (h .den-in) l; den-in = omega (arith, h .den-in); late-in = h .late-in });
+      ready = subst (λ (z : Fraction). Ready (onset z (k .late))) (sym e) (record { num-in = later-in (k .at .num) (k .at .den) n (omega (arith, h .num-in)) (h .den-in) l; den-in = omega (arith, h .den-in); late-in = h .late-in });
     }
 
 -- an onset by ages, shifted, is one of times

@@ -1,4 +1,4 @@
--- The counts of the starred sheets, and of those whose tips open later: `starred-cells` and `late-cells`, each count of the table is its sheet's, by one computed test over the table; `starred-counted` and `late-counted`, it is the number that `Counted` tells of.
+-- The counts of the starred sheets, and of those whose tips open later or face each other: `starred-cells` and `evaluated-cells`, each count of the table is its sheet's, by one computed test over the table; `starred-counted` and `evaluated-counted`, it is the number that `Counted` tells of.
 use mathlib.Core.Path.{_≡_, ap, _∙_, subst}
 use mathlib.Core.Bool.{Bool}
 use mathlib.Core.List.{List}
@@ -9,10 +9,10 @@ use Rattle.sheet.specs.Listing.{_∈_}
 use Rattle.rule.specs.declared.Row.{Row}
 use Rattle.rule.specs.Rows.{timeOf}
 use Rattle.rule.specs.Selection.{rollOf}
-use Rattle.rule.specs.Starred.{Starred, listingOf, starred, lateSheets}
+use Rattle.rule.specs.Starred.{Starred, listingOf, starred, evaluated}
 use Rattle.rule.proofs.Tests.{all, all-at}
 use Rattle.rule.proofs.Starred.{starred-accepted, starred-computed}
-use Rattle.rule.proofs.Late.{late-accepted, late-computed}
+use Rattle.rule.proofs.Evaluated.{evaluated-accepted, evaluated-is}
 use Rattle.cells.specs.Grid.{g8, side}
 use Rattle.cells.specs.Touched.{Counted}
 use Rattle.cells.specs.Cut.{before, later, sooner, plusᶜ, past}
@@ -30,9 +30,9 @@ table-ok : T (all cells-ok starred)
 unfolding cells-ok starred
 table-ok = tt
 
-late-ok : T (all cells-ok lateSheets)
-unfolding cells-ok lateSheets
-late-ok = tt
+evaluated-ok : T (all cells-ok evaluated)
+unfolding cells-ok evaluated
+evaluated-ok = tt
 
 -- of an entry of either table
 module _ {e : Starred} (acc : Accepted (listingOf e)) (computed : rollOf (listingOf e) ≡ e .roll) (ok : T (cells-ok e)) where
@@ -51,8 +51,8 @@ starred-cells e m = cells-is (starred-accepted e m) (starred-computed e m) (all-
 pub starred-counted : (e : Starred) → e ∈ starred → Counted (timeOf (e .roll)) 8 (e .tracks) (e .cells)
 starred-counted e m = counted-is (starred-accepted e m) (starred-computed e m) (all-at cells-ok starred table-ok e m)
 
-pub late-cells : (e : Starred) → e ∈ lateSheets → cellsEntered (listingOf e) 8 ≡ e .cells
-late-cells e m = cells-is (late-accepted e m) (late-computed e m) (all-at cells-ok lateSheets late-ok e m)
+pub evaluated-cells : (e : Starred) → e ∈ evaluated → cellsEntered (listingOf e) 8 ≡ e .cells
+evaluated-cells e m = cells-is (evaluated-accepted e m) (evaluated-is e m) (all-at cells-ok evaluated evaluated-ok e m)
 
-pub late-counted : (e : Starred) → e ∈ lateSheets → Counted (timeOf (e .roll)) 8 (e .tracks) (e .cells)
-late-counted e m = counted-is (late-accepted e m) (late-computed e m) (all-at cells-ok lateSheets late-ok e m)
+pub evaluated-counted : (e : Starred) → e ∈ evaluated → Counted (timeOf (e .roll)) 8 (e .tracks) (e .cells)
+evaluated-counted e m = counted-is (evaluated-accepted e m) (evaluated-is e m) (all-at cells-ok evaluated evaluated-ok e m)

@@ -6,19 +6,20 @@ use Prim.Native.Nat.{ℕ, suc, pred, _<_}
 use native.Mathlib.Decide.{ℕ-discrete}
 use native.Mathlib.Omega.{arith}
 use lib.ListN.{length}
-use Rattle.fraction.specs.Time.{Time, _≈ᵗ_}
 use Rattle.fraction.specs.Sizes.{Timely}
 use Rattle.fraction.proofs.Sizes.{lowest-timely}
-use Rattle.fraction.proofs.TimeOrder.{≈ᵗ-refl}
 use Rattle.sheet.specs.Accepted.{Accepted}
 use Rattle.sheet.specs.Listing.{Listing, _∈_}
 use Rattle.rule.specs.declared.Row.{Row}
-use Rattle.rule.specs.Causes.{Cand, low, rowOf, upTo}
+use Rattle.rule.specs.Causes as rule
+use Rattle.rule.specs.Causes.{Cand, low, rowOf}
+use Rattle.rule.specs.Contact.{when}
 use Rattle.rule.specs.Rows.{time}
 use Rattle.rule.specs.Meanwhile.{Fresh}
-use Rattle.rule.proofs.Selection.{up-one}
+use Rattle.rule.proofs.Selection.{end-one}
 use Rattle.rule.proofs.Tests.{eqb-self}
 use Rattle.cause.specs.Cause.{tipAt, candOf, Fine}
+use Rattle.cause.specs.Offer.{Closed}
 use Rattle.cause.specs.Looked.{Gone}
 use Rattle.tips.specs.Tips.{Tip, tipIn, at-time}
 use Rattle.look.specs.Ends.{endOf, Ends}
@@ -61,40 +62,40 @@ module _ {S : Listing} (acc : Accepted S) {ts : List Tip} {done : List Row} (e :
       go (inl y) = id-apart j h n (ap (λ (z : Row). z .id) (sym y) ∙ x)
       go (inr y) = g d y x
 
-  gone-next : (j : ℕ) → j < length (S .tracks) → j ≢ i → Gone done (tipAt S j) (endOf (tipIn ts j)) → Gone (row ∷ done) (tipAt S j) (endOf (tipIn ts j))
+  gone-next : (j : ℕ) → j < length (S .tracks) → j ≢ i → Gone done (tipAt S j) (tipIn ts j .best .at) → Gone (row ∷ done) (tipAt S j) (tipIn ts j .best .at)
   gone-next j h n g =
       record {
         row = g .row;
         written = List·Memᴰ·tail (g .written);
         named = g .named;
-        stops = λ u. go u (up-one u row done (tipAt S j .id));
+        ends = go (end-one row done (tipAt S j .id)) ∙ g .ends;
+        closed = g .closed;
       }
     where
-      go : (u : Time) → ((row .id ≡ tipAt S j .id) × (upTo (row ∷ done) u (tipAt S j .id) ≡ time row)) ⊎ (upTo (row ∷ done) u (tipAt S j .id) ≡ upTo done u (tipAt S j .id)) → upTo (row ∷ done) u (tipAt S j .id) ≈ᵗ endOf (tipIn ts j)
-      go u (inl x) = absurd (id-apart j h n (x .0))
-      go u (inr x) = subst (λ (z : Time). z ≈ᵗ endOf (tipIn ts j)) (sym x) (g .stops u)
+      go : ((row .id ≡ tipAt S j .id) × (rule.endOf (row ∷ done) (tipAt S j .id) ≡ when (time row))) ⊎ (rule.endOf (row ∷ done) (tipAt S j .id) ≡ rule.endOf done (tipAt S j .id)) → rule.endOf (row ∷ done) (tipAt S j .id) ≡ rule.endOf done (tipAt S j .id)
+      go (inl x) = absurd (id-apart j h n (x .0))
+      go (inr x) = x
 
-  -- it ended at the time of its cause
-  up-here : (u : Time) → upTo (row ∷ done) u (tipAt S i .id) ≡ time row
-  unfolding upTo
-  up-here u = rw (eqb-self (tipAt S i .id), upTo) refl
+  module _ (closed : Closed (tipAt S i) (row .at)) where
+    -- it ended at the time of its cause
+    gone-here : Gone (row ∷ done) (tipAt S i) (over (tipIn ts i) .best .at)
+    unfolding rule.endOf
+    gone-here =
+        record {
+          row = row;
+          written = List·Memᴰ·head refl;
+          named = refl;
+          ends = rw (eqb-self (tipAt S i .id), rule.endOf) refl;
+          closed = closed;
+        }
 
-  gone-here : Gone (row ∷ done) (tipAt S i) (endOf (over (tipIn ts i)))
-  gone-here =
-      record {
-        row = row;
-        written = List·Memᴰ·head refl;
-        named = refl;
-        stops = λ u. subst (λ (z : Time). z ≈ᵗ time row) (sym (up-here u)) (≈ᵗ-refl (time row));
-      }
-
-  pub ends-next : Ends S (finish ts i) (row ∷ done)
-  ends-next =
-      record {
-        running =
-            at-put (λ (j : ℕ) (t : Tip). j < length (S .tracks) → t .ended ≡ 0 → Fresh (row ∷ done) (tipAt S j)) ts i (over (tipIn ts i)) room (λ h x. absurd (omega (arith, x)))
-            (λ j n h x. fresh-next j h n (e .running j h x));
-        ended =
-            at-put (λ (j : ℕ) (t : Tip). j < length (S .tracks) → (t .ended ≡ 0 → ⊥) → Gone (row ∷ done) (tipAt S j) (endOf t)) ts i (over (tipIn ts i)) room (λ h x. gone-here)
-            (λ j n h x. gone-next j h n (e .ended j h x));
-      }
+    pub ends-next : Ends S (finish ts i) (row ∷ done)
+    ends-next =
+        record {
+          running =
+              at-put (λ (j : ℕ) (t : Tip). j < length (S .tracks) → t .ended ≡ 0 → Fresh (row ∷ done) (tipAt S j)) ts i (over (tipIn ts i)) room (λ h x. absurd (omega (arith, x)))
+              (λ j n h x. fresh-next j h n (e .running j h x));
+          ended =
+              at-put (λ (j : ℕ) (t : Tip). j < length (S .tracks) → (t .ended ≡ 0 → ⊥) → Gone (row ∷ done) (tipAt S j) (t .best .at)) ts i (over (tipIn ts i)) room (λ h x. gone-here)
+              (λ j n h x. gone-next j h n (e .ended j h x));
+        }

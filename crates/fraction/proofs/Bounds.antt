@@ -94,6 +94,10 @@ fits-nat w x y m n h k t = record { fits = omega (arith, mul-le-mul h k, ltb→l
 pub toZ-nat : (v w : Width) (n : ℕ) → Fits v n → T (leb (bits v) (hbits w)) → toZ w n ≡ pos n
 toZ-nat v w n f t = toZ-pos w (lt-of-lt-of-le (f .fits) (pow-mono (leb→le (bits v) (hbits w) t)))
 
+-- the bits of a small number
+pub toZ-small : (n m : ℕ) → n ≤ m → T (ltb m (2 ^ hbits w64)) → toZ w64 n ≡ pos n
+toZ-small n m h t = toZ-pos w64 (omega (arith, ltb→lt m (2 ^ hbits w64) t))
+
 -- at the widths that casts to i64 start from: as a rewriting rule the law over the width is not tried, since no goal shows v
 pub toZ-u8 : (n : ℕ) → Fits w8 n → toZ w64 n ≡ pos n
 toZ-u8 n f = toZ-nat w8 w64 n f tt
@@ -131,6 +135,22 @@ fits-mul h k t = within-fits (within-mul h k) t
 
 pub fits-det : {w : Width} {k l m n : ℕ} {a b c d : ℤ} → Within k a → Within l b → Within m c → Within n d → T (ltb (k * l + m * n) (2 ^ hbits w)) → SFits w (a *ℤ b -ℤ c *ℤ d)
 fits-det h i j k t = within-fits (within-sub (within-mul h i) (within-mul j k)) t
+
+-- a + b × c
+pub fits-line : {w : Width} {l m n : ℕ} {a b c : ℤ} → Within l a → Within m b → Within n c → T (ltb (l + m * n) (2 ^ hbits w)) → SFits w (a +ℤ b *ℤ c)
+fits-line h i j t = within-fits (within-add h (within-mul i j)) t
+
+pub within-line : {l m n p : ℕ} {a b c : ℤ} → Within l a → Within m b → Within n c → T (leb (l + m * n) p) → Within p (a +ℤ b *ℤ c)
+within-line h i j t = within-wide (within-add h (within-mul i j)) t
+
+pub fits-sum : {w : Width} {k l m n : ℕ} {a b c d : ℤ} → Within k a → Within l b → Within m c → Within n d → T (ltb (k * l + m * n) (2 ^ hbits w)) → SFits w (a *ℤ b +ℤ c *ℤ d)
+fits-sum h i j k t = within-fits (within-add (within-mul h i) (within-mul j k)) t
+
+pub within-sum : {k l m n p : ℕ} {a b c d : ℤ} → Within k a → Within l b → Within m c → Within n d → T (leb (k * l + m * n) p) → Within p (a *ℤ b +ℤ c *ℤ d)
+within-sum h i j k t = within-wide (within-add (within-mul h i) (within-mul j k)) t
+
+pub within-sub-wide : {m n p : ℕ} {y z : ℤ} → Within m y → Within n z → T (leb (m + n) p) → Within p (y -ℤ z)
+within-sub-wide h k t = within-wide (within-sub h k) t
 
 pub fits-gap : {w : Width} {n a b : ℕ} → a ≤ n → b ≤ n → T (ltb n (2 ^ hbits w)) → SFits w (pos a -ℤ pos b)
 fits-gap h k t = within-fits (within-pos-sub h k) t

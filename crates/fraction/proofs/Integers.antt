@@ -40,3 +40,8 @@ module _ (x y : ℤ) where
 pub combine₂ : (l r k₁ l₁ r₁ k₂ l₂ r₂ : ℤ) → l₁ ≡ r₁ → l₂ ≡ r₂ → l -ℤ r ≡ k₁ *ℤ (l₁ -ℤ r₁) +ℤ k₂ *ℤ (l₂ -ℤ r₂) → l ≡ r
 combine₂ l r k₁ l₁ r₁ k₂ l₂ r₂ e f g =
     from-zero l r (g ∙ rw (to-zero l₁ r₁ e, to-zero l₂ r₂ f, *ℤ-zero k₁, *ℤ-zero k₂))
+
+-- of three equations
+pub combine₃ : (l r k₁ l₁ r₁ k₂ l₂ r₂ k₃ l₃ r₃ : ℤ) → l₁ ≡ r₁ → l₂ ≡ r₂ → l₃ ≡ r₃ → l -ℤ r ≡ k₁ *ℤ (l₁ -ℤ r₁) +ℤ k₂ *ℤ (l₂ -ℤ r₂) +ℤ k₃ *ℤ (l₃ -ℤ r₃) → l ≡ r
+combine₃ l r k₁ l₁ r₁ k₂ l₂ r₂ k₃ l₃ r₃ e f h g =
+    from-zero l r (g ∙ rw (to-zero l₁ r₁ e, to-zero l₂ r₂ f, to-zero l₃ r₃ h, *ℤ-zero k₁, *ℤ-zero k₂, *ℤ-zero k₃))

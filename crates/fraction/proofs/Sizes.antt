@@ -7,7 +7,7 @@ use mir.Syntax.{w64}
 use mir.Val.{Fits, bits}
 use Rattle.fraction.specs.declared.Fraction.{Fraction}
 use Rattle.fraction.specs.Lowest.{lowestOf}
-use Rattle.fraction.specs.Sizes.{greatestPart, greatestNum, Young, Small, Timely}
+use Rattle.fraction.specs.Sizes.{greatestPart, greatestAge, greatestNum, Young, Small, Timely}
 use Rattle.fraction.specs.Time.{laterBy}
 use Rattle.fraction.proofs.Bounds.{fits-nat}
 use Rattle.fraction.proofs.LowestTerms.{lowestOf-num, lowestOf-den, lowestOf-reduced}
@@ -26,7 +26,7 @@ pub young-timely : {t : Fraction} → Young t → Timely t
 young-timely h = record { num-in = omega (arith, h .num-in); den-in = omega (arith, h .den-in); den-pos = h .den-pos }
 
 -- a start time is at most 4095
-pub later-in : (m d n : ℕ) → m ≤ greatestPart → d ≤ greatestPart → n ≤ 4095 → m + n * d ≤ greatestNum
+pub later-in : (m d n : ℕ) → m ≤ greatestAge → d ≤ greatestPart → n ≤ 4095 → m + n * d ≤ greatestNum
 later-in m d n h i k = omega (arith, mul-le-mul k i)
 
 pub later-timely : {t : Fraction} (n : ℕ) → Young t → n ≤ 4095 → Timely (laterBy n t)
@@ -35,7 +35,7 @@ later-timely {t} n h k = record { num-in = later-in (t .num) (t .den) n (h .num-
 pub scaled-fits : (d n : ℕ) → d ≤ greatestPart → n ≤ 4095 → Fits w64 (n * d)
 scaled-fits d n h k = fits-nat w64 n d 4095 greatestPart k h tt
 
-pub later-fits : (m d n : ℕ) → m ≤ greatestPart → d ≤ greatestPart → n ≤ 4095 → Fits w64 (m + n * d)
+pub later-fits : (m d n : ℕ) → m ≤ greatestAge → d ≤ greatestPart → n ≤ 4095 → Fits w64 (m + n * d)
 later-fits m d n h i k = record { fits = omega (arith, later-in m d n h i k, ltb→lt greatestNum (2 ^ bits w64) tt) }
 
 pub lowest-timely : {n d : ℕ} → Timely (record { num = n; den = d }) → Timely (lowestOf n d)

@@ -2,14 +2,18 @@
 use Prim.Native.Nat.{ℕ, _+_, _*_, _≤_, _<_}
 use Rattle.fraction.specs.declared.Fraction.{Fraction}
 
--- ---- ages, as a sheet's coordinates and speeds give them
+-- ---- ages, as a sheet's coordinates and speeds give them, and the ends of other tips
 
 -- 2 × 4095 × 4095: a determinant of differences of coordinates
 abbrev pub greatestPart : ℕ
 greatestPart = 33538050
 
+-- 4095 × greatestRowDen + 63 × greatestRowNum: a difference of coordinates times a row's denominator, and a speed times its numerator
+abbrev pub greatestAge : ℕ
+greatestAge = 137338314750
+
 pub record Young (t : Fraction) : Type 0 where
-  pub num-in : t .num ≤ greatestPart
+  pub num-in : t .num ≤ greatestAge
   pub den-in : t .den ≤ greatestPart
   pub den-pos : 0 < t .den
 
@@ -19,7 +23,7 @@ pub record Young (t : Fraction) : Type 0 where
 abbrev pub greatestRowDen : ℕ
 greatestRowDen = 515970
 
--- the greatest age, and a start time of 4095 over the greatest denominator
+-- greatestPart, as lines, walls and the edge give it, and a start time of 4095 over the greatest denominator
 abbrev pub greatestRowNum : ℕ
 greatestRowNum = greatestPart + 4095 * greatestRowDen
 

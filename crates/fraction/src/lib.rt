@@ -2,7 +2,7 @@
 ghost use mathlib.Core.Path.{_≡_};
 ghost use Prim.Native.Nat.{_*_, _≤_, _<_};
 ghost use Rattle.fraction.specs.Lowest.{Greatest, Reduced, lowestOf};
-ghost use Rattle.fraction.specs.Sizes.{greatestPart, Timely};
+ghost use Rattle.fraction.specs.Sizes.{greatestPart, greatestAge, Timely};
 ghost use Rattle.fraction.specs.Time.{notLater, laterBy, earlierBy};
 ghost use Rattle.fraction.specs.Sign.{signOf};
 
@@ -56,7 +56,7 @@ pub fn not_later(a: Fraction, b: Fraction) -> bool
 
 // The time at which a tip that opens at `start` is of this age (SHEETS 4.1).
 pub fn later(age: Fraction, start: u16) -> Fraction
-    requires { ⌜ (age .num ≤ greatestPart) × (age .den ≤ greatestPart) × (start ≤ 4095) ⌝ }
+    requires { ⌜ (age .num ≤ greatestAge) × (age .den ≤ greatestPart) × (start ≤ 4095) ⌝ }
     ensures { λ r. ⌜ r ≡ laterBy start age ⌝ }
 {
     let den = age.den;

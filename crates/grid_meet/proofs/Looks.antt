@@ -34,7 +34,7 @@ module _ {S : Listing} {F : Frame} {side i : ℕ} {w : Crowd} (z : Busy S F side
   -- the tip at j may look at the tip at q
   pub may-look : (j q : ℕ) → j < F .begun → q < F .begun → MayLook S (w .tips) j q
   may-look j q h k =
-      record { tip-in = begun-place z j h .0; other-in = begun-place z q k .0; fine = z .looked .fine j h; end-fine = z .looked .fine q k }
+      record { tip-in = begun-place z j h .0; other-in = begun-place z q k .0; fine = z .looked .fine j h; closed = λ x. z .looked .ends .ended q (begun-place z q k .0) x .closed }
 
   -- the tip at j has a pending event
   pub may-enter : (j : ℕ) → Runs (F .begun) (w .tips) j → j ≢ i → MayEnter S side (w .tips) j

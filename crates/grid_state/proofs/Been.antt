@@ -1,4 +1,4 @@
--- Where a tip has been: `cell-near`, `been-in`.
+-- Where a tip has been: `cell-near`, `been-in`; and `later-past`, what it came to by u it came to by v.
 use mathlib.Core.List.{List}
 use Prim.Native.Nat.{ℕ}
 use native.Mathlib.Numerals.{add-one}
@@ -10,13 +10,16 @@ use Rattle.rule.specs.Motion.{OnWall}
 use Rattle.cause.specs.Looked.{Near}
 use Rattle.cause.proofs.Near.{near-on}
 use Rattle.cells.specs.declared.Cell.{Cell}
-use Rattle.cells.specs.Cut.{past, _≤ᶜ_}
+use Rattle.cells.specs.Cut.{Cut, past, _≤ᶜ_, _<ᶜ_}
 use Rattle.cells.specs.Grid.{InCell}
 use Rattle.cells.specs.OneCell.{exit}
-use Rattle.cells.proofs.Cut.{not-past}
+use Rattle.cells.proofs.Cut.{not-past, after-mono}
 use Rattle.cells.specs.Entered.{Entered}
-use Rattle.cells.proofs.Entry.{cell-entry, cell-exit}
+use Rattle.cells.proofs.Entry.{cell-entry, cell-exit, past-before, before-past}
 use Rattle.grid_steps.specs.Steps.{regionOf}
+
+pub later-past : {c : Cut} {u v : Time} → u ≤ᵗ v → c <ᶜ past u → c <ᶜ past v
+later-past h i = past-before (after-mono h (before-past i))
 
 -- a wall that a tip is on in a cell is near the cell
 pub cell-near : {a : Track} {side : ℕ} {k : Cell} {t : Time} {w : Wall} → InCell a side k t → OnWall a t w → Near (regionOf side k) w

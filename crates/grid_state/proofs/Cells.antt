@@ -96,7 +96,7 @@ module _ {S : Listing} {done : List Row} {side : ℕ} {es : List (List Cell)} {b
         long = length-set ts i new ∙ lk .long;
         ends = record {
           running = at-put (λ (j : ℕ) (t : Tip). j < length (S .tracks) → t .ended ≡ 0 → Fresh done (tipAt S j)) ts i new room (lk .ends .running i) (λ j n. lk .ends .running j);
-          ended = at-put (λ (j : ℕ) (t : Tip). j < length (S .tracks) → (t .ended ≡ 0 → ⊥) → Gone done (tipAt S j) (endOf t)) ts i new room (λ m n. absurd (n (runs .1))) (λ j n. lk .ends .ended j);
+          ended = at-put (λ (j : ℕ) (t : Tip). j < length (S .tracks) → (t .ended ≡ 0 → ⊥) → Gone done (tipAt S j) (t .best .at)) ts i new room (λ m n. absurd (n (runs .1))) (λ j n. lk .ends .ended j);
         };
         fine = at-put (λ (j : ℕ) (t : Tip). j < b → Fine (t .best)) ts i new room (λ m. here-first .0 .fine) (λ j n. lk .fine j);
         best = at-put (λ (j : ℕ) (t : Tip). (j < b) × (t .ended ≡ 0) → Best S done side (cellsAt es′ j) marks j (t .best)) ts i new room
@@ -121,7 +121,7 @@ looked-moved {S} {done} {side} {es} {b} {ts} {marks} lk i small k =
       long = length-set ts i new ∙ lk .long;
       ends = record {
         running = at-put (λ (j : ℕ) (t : Tip). j < length (S .tracks) → t .ended ≡ 0 → Fresh done (tipAt S j)) ts i new room (lk .ends .running i) (λ j n. lk .ends .running j);
-        ended = at-put (λ (j : ℕ) (t : Tip). j < length (S .tracks) → (t .ended ≡ 0 → ⊥) → Gone done (tipAt S j) (endOf t)) ts i new room (lk .ends .ended i) (λ j n. lk .ends .ended j);
+        ended = at-put (λ (j : ℕ) (t : Tip). j < length (S .tracks) → (t .ended ≡ 0 → ⊥) → Gone done (tipAt S j) (t .best .at)) ts i new room (lk .ends .ended i) (λ j n. lk .ends .ended j);
       };
       fine = at-put (λ (j : ℕ) (t : Tip). j < b → Fine (t .best)) ts i new room (lk .fine i) (λ j n. lk .fine j);
       best = at-put (λ (j : ℕ) (t : Tip). (j < b) × (t .ended ≡ 0) → Best S done side (cellsAt es j) marks j (t .best)) ts i new room (lk .best i) (λ j n. lk .best j);
@@ -158,7 +158,7 @@ module _ {S : Listing} {done : List Row} {side : ℕ} {es : List (List Cell)} {b
         long = length-set ts b opened ∙ lk .long;
         ends = record {
           running = at-put (λ (j : ℕ) (t : Tip). j < length (S .tracks) → t .ended ≡ 0 → Fresh done (tipAt S j)) ts b opened room-more (lk .ends .running b) (λ j n. lk .ends .running j);
-          ended = at-put (λ (j : ℕ) (t : Tip). j < length (S .tracks) → (t .ended ≡ 0 → ⊥) → Gone done (tipAt S j) (endOf t)) ts b opened room-more (λ m n. absurd (n runs)) (λ j n. lk .ends .ended j);
+          ended = at-put (λ (j : ℕ) (t : Tip). j < length (S .tracks) → (t .ended ≡ 0 → ⊥) → Gone done (tipAt S j) (t .best .at)) ts b opened room-more (λ m n. absurd (n runs)) (λ j n. lk .ends .ended j);
         };
         fine = at-put (λ (j : ℕ) (t : Tip). j < b + 1 → Fine (t .best)) ts b opened room-more (λ m. e .stands .fine) (λ j n m. lk .fine j (older j n m));
         best = at-put (λ (j : ℕ) (t : Tip). (j < b + 1) × (t .ended ≡ 0) → Best S done side (cellsAt es j) marks j (t .best)) ts b opened room-more

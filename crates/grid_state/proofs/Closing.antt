@@ -9,7 +9,7 @@ use native.Mathlib.Omega.{arith}
 use lib.ListN.{length, getD}
 use lib.Dec.{eqb}
 use Rattle.fraction.specs.Time.{Time, _≈ᵗ_, zeroᵗ}
-use Rattle.fraction.proofs.TimeOrder.{≈ᵗ-sym}
+use Rattle.fraction.proofs.TimeOrder.{≈ᵗ-refl}
 use Rattle.sheet.specs.declared.Track.{Track}
 use Rattle.sheet.specs.HandedIn.{noTrack}
 use Rattle.sheet.specs.Listing.{Listing, _∈_}
@@ -22,6 +22,7 @@ use Rattle.rule.proofs.Existence.{roll-of}
 use Rattle.rule.proofs.OneRoll.{timeOf-row}
 use Rattle.rule.proofs.Tests.{eqb-self, eqb-other}
 use Rattle.rule.proofs.Turn.{progress-more}
+use Rattle.cause.proofs.Looking.{gone-at}
 use Rattle.cause.specs.Cause.{tipAt}
 use Rattle.cells.specs.declared.Cell.{Cell}
 use Rattle.cells.specs.CellsEntered.{cellsEntered}
@@ -67,7 +68,7 @@ module _ {S : Listing} {g k : ℕ} {w : Sweep} (go : Going S g k w) {j : ℕ} (h
       let e = go .state .looked .ends .ended j h over in
       let (r, m, i, f) = up-known (go .done) zeroᵗ (tipAt S j .id) (e .row) (e .written) (e .named) in
       let z : timeOf (rollOf S) (tipAt S j .id) ≡ time r = ap (timeOf (rollOf S)) (sym i) ∙ timeOf-row (rollOf S) r (roll-of S (go .state .accepted) .meets .is-set .distinct) (known-roll (go .rows) r m) in
-      subst (λ (t : Time). endOf (tipIn (w .crowd .tips) j) ≈ᵗ t) (f ∙ sym z) (≈ᵗ-sym (e .stops zeroᵗ))
+      subst (λ (t : Time). endOf (tipIn (w .crowd .tips) j) ≈ᵗ t) (sym (gone-at e zeroᵗ) ∙ f ∙ sym z) (≈ᵗ-refl (endOf (tipIn (w .crowd .tips) j)))
 
   pub ended-cells : CellsOf (tipAt S j) (timeOf (rollOf S) (tipAt S j .id)) (side g) (cellsAt (go .es) j)
   ended-cells = cells-same end-is (go .state .looked .gone j h over)

@@ -17,22 +17,25 @@ use Rattle.sheet.specs.Listing.{Listing, _∈_}
 use Rattle.sheet.proofs.Lists.{mem-at, at-mem}
 use Rattle.rule.specs.declared.Row.{Row}
 use Rattle.rule.specs.Motion.{Inside, OnWall}
+use Rattle.rule.specs.Causes as rule
 use Rattle.rule.specs.Causes.{Why, by-tip, by-bar, by-rim, Cand, Below, rowOf, upTo}
-use Rattle.rule.specs.Contact.{when, hit, contact}
+use Rattle.rule.specs.Contact.{when, hit, contactTo}
 use Rattle.rule.specs.Rows.{time}
 use Rattle.rule.specs.EdgeTime.{rim}
 use Rattle.rule.specs.WallTime.{wallTime}
 use Rattle.rule.specs.Selection.{rollOf}
 use Rattle.rule.proofs.Known.{below-le, Seen}
-use Rattle.rule.proofs.OnSheet.{rim-inside, formal-opened, contact-of, contact-hit}
+use Rattle.rule.proofs.OnSheet.{rim-inside, formal-opened}
 use Rattle.rule.proofs.Places.{RunsAt, best, turn-seen, grid-seen-at}
-use Rattle.rule.proofs.Selection.{up-one, up-fresh}
+use Rattle.rule.specs.Meanwhile as meanwhile
 use Rattle.rule.specs.Meanwhile.{Formal, Live, Progress}
-use Rattle.rule.proofs.Turn.{beats-step}
+use Rattle.rule.proofs.Turn.{by-now, by-before, beats-step}
 use Rattle.cause.specs.Cause.{tipAt, candOf, Fine}
+use Rattle.cause.specs.Offer.{Closed}
+use Rattle.cause.proofs.Looking.{gone-at}
 use Rattle.ending.specs.Ended.{nextRow}
 use Rattle.ending.specs.Finished.{finish}
-use Rattle.ending.proofs.Ended.{out-next, rows-next, progress-next, row-next}
+use Rattle.ending.proofs.Ended.{out-next, rows-next, progress-next, row-next, closed-next}
 use Rattle.cells.specs.declared.Cell.{Cell}
 use Rattle.cells.specs.Grid.{InCell}
 use Rattle.cells.specs.Touched.{CellsOf}
@@ -53,7 +56,7 @@ use Rattle.grid_state.specs.Run.{Rows}
 use Rattle.grid_state.specs.Meeting.{LiveCause}
 use Rattle.tips.proofs.Put.{at-put}
 use Rattle.grid_state.proofs.Queue.{none-out}
-use Rattle.grid_state.proofs.Been.{cell-near, been-in}
+use Rattle.grid_state.proofs.Been.{later-past, cell-near, been-in}
 use Rattle.ending.proofs.Ends.{runs-on, over, over-fine, ends-next}
 
 -- the event of the tip at r is the first of all, and it is its cause, which still counts
@@ -106,7 +109,7 @@ module _ {S : Listing} (acc : Accepted S) {s : ℕ} (some-side : 0 < s) {done : 
     where
       go : Dec (tipIn ts j .ended ≡ 0) → c ∈ cellsAt es j
       go (yes z) = been-in (pl .at j (h, z) (stay j h)) (behind j (h, z) .1) x i
-      go (no z) = lk .gone j h z .all c (record { when = v; by-end = ≤ᵗ-trans y (≈ᵗ→≤ᵗ (lk .ends .ended j h z .stops t)); there = i })
+      go (no z) = lk .gone j h z .all c (record { when = v; by-end = subst (λ (e : Time). v ≤ᵗ e) (gone-at (lk .ends .ended j h z) t) y; there = i })
 
   tried : (j : ℕ) (w : Wall) (v : Time) → RunsAt noTrack acc done j → w ∈ S .walls → OnWall (tipAt S j) v w → v ≤ᵗ t → Tried s (cellsAt es j) w
   tried j w v m q o h =
@@ -138,11 +141,15 @@ module _ {S : Listing} (acc : Accepted S) {s : ℕ} (some-side : 0 < s) {done : 
 
   -- ---- its trace
 
+  running : meanwhile.Runs S done (tipAt S r)
+  running = record { on-sheet = on r (runs .0); fresh = lk .ends .running r (runs .0) (runs .1) }
+
   -- it came to its cell before its cause
   came : (u : Time) (y : Why) → Formal S (tipAt S r) u y → Live done u y → entry (tipAt S r) s (cell r) <ᶜ past u
   came u (by-tip b v) (m, d, e) l =
       let (i, h, f) = at-mem noTrack (S .tracks) b m in
-      ahead .of-tips i h (subst (λ (z : Track). z .id ≢ tipAt S r .id) (sym f) d) u v (subst (λ (z : Track). contact (tipAt S r) z ≡ hit u v) (sym f) e) (subst (λ (z : Track). v ≤ᵗ upTo done u (z .id)) (sym f) l)
+      let p = by-now acc (on r (runs .0)) m d (rows .progress .honest) running e l in
+      later-past (p .by) (ahead .of-tips i h (subst (λ (z : Track). z .id ≢ tipAt S r .id) (sym f) d) (p .v) (p .s) (subst (λ (z : Track). contactTo (tipAt S r) z (rule.endOf done (z .id)) ≡ hit (p .v) (p .s)) (sym f) (p .hits)))
   came u (by-bar w) (m, e) l =
       let (i, h, f) = at-mem noWall (S .walls) w m in
       ahead .of-walls i h u (subst (λ (z : Wall). wallTime (tipAt S r) z ≡ when u) (sym f) e)
@@ -160,6 +167,9 @@ module _ {S : Listing} (acc : Accepted S) {s : ℕ} (some-side : 0 < s) {done : 
 
   -- ---- the state with one row more
 
+  closed : Closed (tipAt S r) (row .at)
+  closed = closed-next acc (rows .out) ending-progress (tipAt S r) (on r (runs .0)) refl
+
   abbrev new : Tip
   new = over (tipIn ts r)
 
@@ -170,25 +180,21 @@ module _ {S : Listing} (acc : Accepted S) {s : ℕ} (some-side : 0 < s) {done : 
   looked-ended =
       record {
         long = length-set ts r new ∙ lk .long;
-        ends = ends-next acc (lk .ends) (runs .0) room;
+        ends = ends-next acc (lk .ends) (runs .0) room closed;
         fine = at-put (λ (j : ℕ) (x : Tip). j < n → Fine (x .best)) ts r new room (λ h. over-fine (tipIn ts r) (lk .fine r h)) (λ j d. lk .fine j);
         best =
             at-put (λ (j : ℕ) (x : Tip). (j < n) × (x .ended ≡ 0) → Best S (row ∷ done) s (cellsAt es j) marks j (x .best)) ts r new room (λ u. absurd (omega (arith, u .1)))
-            (λ j d u. record { walls = lk .best j u .walls; at-tips = λ m h y z. beats-step (tipAt S r) row acc (on j (u .0)) (on m h) z refl (record { on-sheet = on r (runs .0); fresh = lk .ends .running r (runs .0) (runs .1) }) (lk .best j u .at-tips m h y z) });
+            (λ j d u. record { walls = lk .best j u .walls; at-tips = λ m h y z. beats-step (tipAt S r) row acc (on j (u .0)) (on m h) z refl running (closed .opened) (lk .best j u .at-tips m h y z) });
         base = at-put (λ (j : ℕ) (x : Tip). (j < n) × (x .ended ≡ 0) → Base S s (cellsAt es j) (tipAt S j) (x .base)) ts r new room (λ u. absurd (omega (arith, u .1))) (λ j d. lk .base j);
         gone = at-put (λ (j : ℕ) (x : Tip). j < n → (x .ended ≡ 0 → ⊥) → CellsOf (tipAt S j) (endOf x) s (cellsAt es j)) ts r new room (λ h x. cells-same reduced ending-cells) (λ j d. lk .gone j);
       }
 
-  -- what still counts counted before
-  counted-before : (a b : Track) (u v : Time) → a ∈ S .tracks → b ∈ S .tracks → b .id ≢ a .id → contact a b ≡ hit u v → v ≤ᵗ upTo (row ∷ done) u (b .id) → v ≤ᵗ upTo done u (b .id)
-  counted-before a b u v m q d h = go (contact-hit (contact a b) (contact-of acc m b q d) h .1) (up-one u row done (b .id))
-    where
-      go : v ≤ᵗ u → ((row .id ≡ b .id) × (upTo (row ∷ done) u (b .id) ≡ time row)) ⊎ (upTo (row ∷ done) u (b .id) ≡ upTo done u (b .id)) → v ≤ᵗ upTo (row ∷ done) u (b .id) → v ≤ᵗ upTo done u (b .id)
-      go o (inl y) l = subst (λ (z : Time). v ≤ᵗ z) (sym (ap (upTo done u) (sym (y .0)) ∙ up-fresh u done (tipAt S r) (lk .ends .running r (runs .0) (runs .1)))) o
-      go o (inr y) l = subst (λ (z : Time). v ≤ᵗ z) y l
-
   ahead-ended : (j : ℕ) → j < n → {c : Cell} → Ahead S done s (tipAt S j) c → Ahead S (row ∷ done) s (tipAt S j) c
-  ahead-ended j h o = record { of-tips = λ m i d u v e l. o .of-tips m i d u v e (counted-before (tipAt S j) (tipAt S m) u v (on j h) (on m i) d e l); of-walls = o .of-walls }
+  ahead-ended j h o =
+      record {
+        of-tips = λ m i d u v e. let p = by-before acc (on j h) (on m i) d (tipAt S r) row refl running (closed .opened) e in later-past (p .by) (o .of-tips m i d (p .v) (p .s) (p .hits));
+        of-walls = o .of-walls;
+      }
 
   pub placed-ended : Placed S (row ∷ done) s es n 256 (finish ts r)
   placed-ended =

@@ -10,7 +10,7 @@ use lib.Seq.{getD-set-same, getD-set-other}
 use Rattle.cell_members.specs.Members.{CELLS}
 use Rattle.fraction.specs.Time.{Time, _≤ᵗ_, _<ᵗ_}
 use Rattle.fraction.specs.Order.{≤ᵗ-or-<ᵗ}
-use Rattle.fraction.proofs.TimeOrder.{≤ᵗ-trans, <ᵗ→≤ᵗ, ≈ᵗ→≤ᵗ, ≤ᵗ-refl, <ᵗ-≤ᵗ-trans, <ᵗ-irrefl}
+use Rattle.fraction.proofs.TimeOrder.{≤ᵗ-trans, <ᵗ→≤ᵗ, ≤ᵗ-refl, <ᵗ-≤ᵗ-trans, <ᵗ-irrefl}
 use Rattle.sheet.specs.declared.Track.{Track}
 use Rattle.sheet.specs.Accepted.{Accepted}
 use Rattle.sheet.specs.HandedIn.{noTrack, noWall}
@@ -18,13 +18,18 @@ use Rattle.sheet.specs.Listing.{Listing, _∈_}
 use Rattle.sheet.proofs.Lists.{mem-at}
 use Rattle.rule.specs.declared.Row.{Row}
 use Rattle.rule.specs.Motion.{opening}
+use Rattle.rule.proofs.Selection.{until-up}
+use Rattle.rule.specs.Causes as rule
 use Rattle.rule.specs.Causes.{by-tip, by-bar, upTo}
-use Rattle.rule.specs.Contact.{when, hit, contact}
+use Rattle.rule.specs.Contact.{when, hit, contactTo}
 use Rattle.rule.specs.EdgeTime.{rim}
 use Rattle.rule.specs.WallTime.{wallTime}
 use Rattle.rule.proofs.Known.{below-le}
-use Rattle.rule.proofs.OnSheet.{rim-inside, rim-opened, formal-opened, contact-of, contact-hit, wall-of, wall-hit}
+use Rattle.rule.proofs.OnSheet.{rim-inside, rim-opened, formal-opened, comes-of, comes-hit, wall-of, wall-hit}
 use Rattle.cause.specs.Cause.{tipAt, wallAt, candOf}
+use Rattle.cause.proofs.Looking.{gone-at}
+use Rattle.look.specs.Ends.{Ends}
+use Rattle.look.proofs.Counting.{ends-opened}
 use Rattle.cells.specs.declared.Cell.{Cell}
 use Rattle.cells.specs.Grid.{Figure, side, InCell}
 use Rattle.cells.specs.Cut.{Cut, past, _≤ᶜ_, _<ᶜ_}
@@ -34,7 +39,7 @@ use Rattle.cells.specs.Walk.{first, next}
 use Rattle.cells.proofs.Count.{first-in, stay-rim, figure-side}
 use Rattle.cells.specs.Entered.{Entered, Good}
 use Rattle.cells.proofs.Entered.{entered-next}
-use Rattle.cells.proofs.Entry.{cell-entry, point-of, past-before, before-past}
+use Rattle.cells.proofs.Entry.{cell-entry, point-of, past-before}
 use Rattle.cells.proofs.Points.{shared, placed, in-grid}
 use Rattle.cells.proofs.Walk.{Stepped, stepped}
 use Rattle.event_queue.specs.Key.{NotAfter}
@@ -44,17 +49,17 @@ use Rattle.pair_marks.specs.Marks.{Marked}
 use Rattle.grid_steps.specs.Steps.{InGrid, entryIn}
 use Rattle.grid_state.specs.State.{codeOf, cellsAt, total, Runs, Looked, Marks, Ahead, Placed, Listed}
 use Rattle.grid_state.proofs.OneMore.{other-cells, own-cells}
-use Rattle.grid_state.proofs.Been.{cell-near, been-in}
+use Rattle.grid_state.proofs.Been.{later-past, cell-near, been-in}
 use Rattle.tips.proofs.Put.{at-put}
 use Rattle.grid_state.proofs.Queue.{none-out}
 
 -- ---- the first cell
 
-pub first-ahead : {S : Listing} (acc : Accepted S) (done : List Row) {a : Track} → a ∈ S .tracks → (s : ℕ) → 0 < s → Ahead S done s a (first a s)
-first-ahead {S} acc done {a} on s p =
+pub first-ahead : {S : Listing} (acc : Accepted S) {ts : List Tip} {done : List Row} → Ends S ts done → {a : Track} → a ∈ S .tracks → (s : ℕ) → 0 < s → Ahead S done s a (first a s)
+first-ahead {S} acc {done = done} ends {a} on s p =
     let h : (u : Time) → opening a ≤ᵗ u → entry a s (first a s) <ᶜ past u = λ u o. past-before (after-mono o (cell-entry (first-in a s p))) in
     record {
-      of-tips = λ m i d u v e l. h u (formal-opened acc on (by-tip (tipAt S m) v) (mem-at noTrack (S .tracks) m i, d, e));
+      of-tips = λ m i d u v e. h u (formal-opened acc on (by-tip (tipAt S m) v) (mem-at noTrack (S .tracks) m i, d, record { end = rule.endOf done (tipAt S m .id); opened-by = ends-opened ends m i; hits = e }));
       of-walls = λ w i u e. h u (formal-opened acc on (by-bar (wallAt S w)) (mem-at noWall (S .walls) w i, e));
     }
 
@@ -102,7 +107,7 @@ module _ {S : Listing} (acc : Accepted S) {g : ℕ} (fig : Figure g) (some-side 
   soon = own-entry a s k (tipIn ts r .best) (lk .fine r (runs .0)) entry-first
 
   on-sheet : exit a s k <ᶜ past (rim a)
-  on-sheet = past-before (after-mono by-rim (before-past soon))
+  on-sheet = later-past by-rim soon
 
   pub next-stepped : Stepped a (rim a) s g k (next a s k)
   next-stepped = stepped a (rim a) s g some-side (figure-side fig) (stay-rim acc on (rim-opened acc on) (≤ᵗ-refl (rim a))) k (now .good) on-sheet
@@ -130,13 +135,15 @@ module _ {S : Listing} (acc : Accepted S) {g : ℕ} (fig : Figure g) (some-side 
       go (yes z) =
           been-in (pl .at m (l, z) (none-out (acc .few-tracks) m l))
           (≤ᶜ-trans h (leads-entry a s k (tipIn ts r .best) (lk .fine r (runs .0)) (tipAt S m) (tipIn ts m .cell) (tipIn ts m .best) (lk .fine m l) entry-first (before m (l, z)))) x i
-      go (no z) = lk .gone m l z .all c (record { when = v; by-end = ≤ᵗ-trans y (≈ᵗ→≤ᵗ (lk .ends .ended m l z .stops u)); there = i })
+      go (no z) = lk .gone m l z .all c (record { when = v; by-end = subst (λ (e : Time). v ≤ᵗ e) (gone-at (lk .ends .ended m l z) u) y; there = i })
 
-  of-tip : (m : ℕ) → m < length (S .tracks) → tipAt S m .id ≢ a .id → (u v : Time) → contact a (tipAt S m) ≡ hit u v → v ≤ᵗ upTo done u (tipAt S m .id) → past u ≤ᶜ exit a s k → t ≤ᵗ u
-  of-tip m l d u v e y h =
-      let (o, q) = contact-hit (contact a (tipAt S m)) (contact-of acc on (tipAt S m) (mem-at noTrack (S .tracks) m l) d) e in
+  of-tip : (m : ℕ) → m < length (S .tracks) → tipAt S m .id ≢ a .id → (u v : Time) → contactTo a (tipAt S m) (rule.endOf done (tipAt S m .id)) ≡ hit u v → past u ≤ᶜ exit a s k → t ≤ᵗ u
+  of-tip m l d u v e h =
+      let end = rule.endOf done (tipAt S m .id) in
+      let (o, q, z) = comes-hit end (contactTo a (tipAt S m) end) (comes-of acc on (tipAt S m) (mem-at noTrack (S .tracks) m l) d end (ends-opened (lk .ends) m l)) e in
+      let y = until-up done (tipAt S m .id) u v q z in
       let (c, i, x) = inside u (o .opened) h in
-      below-le (lk .best r runs .at-tips m l (mk .share r m c (runs .0) l (λ z. d (ap (λ (n : ℕ). tipAt S n .id) (sym z))) x (other-in m l u v c h q y (shared o i))) d .beats u v e y)
+      below-le (lk .best r runs .at-tips m l (mk .share r m c (runs .0) l (λ z. d (ap (λ (n : ℕ). tipAt S n .id) (sym z))) x (other-in m l u v c h q y (shared o i))) d .beats u v e)
 
   of-wall : (w : ℕ) → w < length (S .walls) → (u : Time) → wallTime a (wallAt S w) ≡ when u → past u ≤ᶜ exit a s k → t ≤ᵗ u
   of-wall w l u e h =
@@ -145,7 +152,7 @@ module _ {S : Listing} (acc : Accepted S) {g : ℕ} (fig : Figure g) (some-side 
       below-le (lk .best r runs .walls .at-walls w l (record { cell = c; entered = x; near = cell-near i o }) u e)
 
   pub next-ahead : Ahead S done s a (next a s k)
-  next-ahead = record { of-tips = λ m l d u v e y. late u (of-tip m l d u v e y); of-walls = λ w l u e. late u (of-wall w l u e) }
+  next-ahead = record { of-tips = λ m l d u v e. late u (of-tip m l d u v e); of-walls = λ w l u e. late u (of-wall w l u e) }
 
 -- ---- the state with one cell more
 

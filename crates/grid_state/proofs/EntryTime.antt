@@ -17,19 +17,21 @@ use Rattle.sheet.proofs.Lists.{at-mem}
 use Rattle.rule.specs.declared.Row.{Row}
 use Rattle.rule.specs.Rule.{Blocks, Stops, by-track, by-wall, by-edge}
 use Rattle.rule.specs.Rows.{time, timeOf}
+use Rattle.rule.specs.Motion.{opening}
+use Rattle.rule.specs.Causes as rule
 use Rattle.rule.specs.Causes.{upTo}
-use Rattle.rule.specs.Contact.{Quot, when, Contact, hit, contact}
+use Rattle.rule.specs.Contact.{Quot, when, Contact, hit, contactTo}
 use Rattle.rule.specs.EdgeTime.{rim}
 use Rattle.rule.specs.WallTime.{wallTime}
 use Rattle.rule.specs.Selection.{rollOf}
-use Rattle.rule.proofs.Consequences.{trace-ends, ends-in-time}
-use Rattle.rule.proofs.Contacts.{Passed, ContactMeans, no-contact, contact-at}
+use Rattle.rule.proofs.Consequences.{trace-ends, roll-opened, ends-in-time}
+use Rattle.rule.proofs.Contacts.{Passed, Until, Comes, comes-not, comes-at}
 use Rattle.rule.proofs.Existence.{roll-of}
 use Rattle.rule.proofs.OneRoll.{meets, timeOf-row}
-use Rattle.rule.proofs.OnSheet.{contact-hit, contact-of, wall-of, rim-last}
+use Rattle.rule.proofs.OnSheet.{contact-hit, comes-of, wall-of, rim-last}
 use Rattle.rule.specs.Meanwhile.{Ended, Fresh}
 use Rattle.rule.proofs.Running.{ended?}
-use Rattle.rule.proofs.Selection.{up-all, up-fresh}
+use Rattle.rule.proofs.Selection.{up-all, up-fresh, up-until, rows-opened}
 use Rattle.rule.proofs.Walls.{WallMeans, clear, touches}
 use Rattle.cause.specs.declared.Cause.{Cause}
 use Rattle.cause.specs.Cause.{tipAt, Fine}
@@ -38,8 +40,8 @@ use Rattle.cells.specs.EnteredAt.{EnteredAt}
 use Rattle.cells.specs.Cut.{After, before, past, _≤ᶜ_, _<ᶜ_}
 use Rattle.cells.specs.Grid.{side, InCell}
 use Rattle.cells.specs.OneCell.{entry, exit}
-use Rattle.cells.proofs.Cut.{before-true, before-false, after-den, after-mono}
-use Rattle.cells.proofs.Entry.{cell-entry, cell-exit, past-before, before-past, point-by, entered-at}
+use Rattle.cells.proofs.Cut.{before-true, before-false, after-den}
+use Rattle.cells.proofs.Entry.{cell-entry, cell-exit, before-past, point-by, entered-at}
 use Rattle.cells.specs.Walk.{next}
 use Rattle.cells.proofs.Walk.{Stepped}
 use Rattle.event_queue.specs.declared.Event.{Event}
@@ -54,6 +56,7 @@ use Rattle.grid_state.specs.State.{cellsAt, Runs, Ahead}
 use Rattle.grid_state.specs.Run.{Rows, Going}
 use Rattle.grid_state.specs.Sweep.{Sweep}
 use Rattle.grid_state.proofs.Queue.{none-out}
+use Rattle.grid_state.proofs.Been.{later-past}
 
 -- the rows so far are rows of the roll
 pub known-roll : {S : Listing} {done : List Row} {k : ℕ} → Rows S done k → (d : Row) → d ∈ done → d ∈ rollOf S
@@ -75,34 +78,33 @@ module _ {S : Listing} (acc : Accepted S) {done : List Row} (known : (d : Row) �
       go (inr f) = subst (λ (z : Time). v ≤ᵗ z) (sym (up-fresh u done b f)) h
 
   module _ {s : ℕ} {a : Track} (m : a ∈ S .tracks) {k : Cell} (ahead : Ahead S done s a k) (on-sheet : entry a s k <ᶜ past (rim a)) where
-    later : {u v : Time} → u ≤ᵗ v → entry a s k <ᶜ past u → entry a s k <ᶜ past v
-    later h i = past-before (after-mono h (before-past i))
-
     -- no tip comes to the trace of another and goes on
     never-passed : (b : Track) (t r : Time) → t ≤ᵗ ends (a .id) → Blocks S ends a t b r → Passed a b r → ⊥
     never-passed b t r h k p =
         let d : a .id ≢ b .id = λ e. k .other (sym e) in
-        let (o, q) = contact-hit (contact b a) (contact-of acc (k .on-sheet) a m d) (p .hits) in
+        let (o, q) = contact-hit acc (k .on-sheet) a m d (p .hits) in
         let alive = ≤ᵗ-trans q (≤ᵗ-trans (<ᵗ→≤ᵗ (p .before)) (≤ᵗ-trans (k .not-later) h)) in
         let ended = trace-ends (meets (roll-of S acc .meets)) (k .on-sheet) (record { on-sheet = m; other = d; not-later = q; running = alive; there = o }) in
         <ᵗ-irrefl (≤ᵗ-<ᵗ-trans (≤ᵗ-trans (k .running) ended) (p .before))
 
     by-tip : (b : Track) (t r : Time) → t ≤ᵗ ends (a .id) → Blocks S ends a t b r → entry a s k <ᶜ past t
-    by-tip b t r l j = go (contact a b) refl (contact-of acc m b (j .on-sheet) (j .other))
+    by-tip b t r l j = go (contactTo a b end) refl (comes-of acc m b (j .on-sheet) (j .other) end (rows-opened b done opened))
       where
-        met : (u v : Time) → contact a b ≡ hit u v → v ≤ᵗ u → u ≤ᵗ t → v ≤ᵗ r → entry a s k <ᶜ past t
-        met u v e o h i =
-            let (n, l, f) = at-mem noTrack (S .tracks) b (j .on-sheet) in
-            later h (ahead .of-tips n l (subst (λ (z : Track). z .id ≢ a .id) (sym f) (j .other)) u v (subst (λ (z : Track). contact a z ≡ hit u v) (sym f) e)
-            (subst (λ (z : Track). v ≤ᵗ upTo done u (z .id)) (sym f) (in-known b u v o (≤ᵗ-trans i (j .running)))))
+        end : Quot
+        end = rule.endOf done (b .id)
 
-        go : (q : Contact) → contact a b ≡ q → ContactMeans a b q → entry a s k <ᶜ past t
-        go q e (no-contact g) = absurd (never-passed b t r l j (g t r (j .there) (j .not-later)))
-        go q e (contact-at u v x o g) = on (g t r (j .there) (j .not-later))
-          where
-            on : ((u ≤ᵗ t) × (v ≤ᵗ r)) ⊎ Passed a b r → entry a s k <ᶜ past t
-            on (inl (h, i)) = met u v e o h i
-            on (inr p) = absurd (never-passed b t r l j p)
+        opened : (d : Row) → d ∈ done → d .id ≡ b .id → opening b ≤ᵗ time d
+        opened d i e = subst (λ (z : Time). opening b ≤ᵗ z) (ap ends (sym e) ∙ timeOf-row (rollOf S) d (roll-of S acc .meets .is-set .distinct) (known d i)) (roll-opened acc (j .on-sheet))
+
+        until : Until end r
+        until = up-until done (b .id) t r (in-known b t r (j .not-later) (j .running))
+
+        go : (q : Contact) → contactTo a b end ≡ q → Comes a b end q → entry a s k <ᶜ past t
+        go q e (comes-not g) = absurd (never-passed b t r l j (g t r (j .there) (j .not-later) until))
+        go q e (comes-at u v x o y g) =
+            let (n, i, f) = at-mem noTrack (S .tracks) b (j .on-sheet) in
+            later-past (g t r (j .there) (j .not-later) until)
+            (ahead .of-tips n i (subst (λ (z : Track). z .id ≢ a .id) (sym f) (j .other)) u v (subst (λ (z : Track). contactTo a z (rule.endOf done (z .id)) ≡ hit u v) (sym f) e))
 
     by-stop : (t : Time) → t ≤ᵗ ends (a .id) → Stops S ends a t → entry a s k <ᶜ past t
     by-stop t h (by-track b r j) = by-tip b t r h j
@@ -112,8 +114,8 @@ module _ {S : Listing} (acc : Accepted S) {done : List Row} (known : (d : Row) �
         go q e (clear f) = absurd (f t o)
         go q e (touches u x f) =
             let (n, l, y) = at-mem noWall (S .walls) w i in
-            later (f t o) (ahead .of-walls n l u (subst (λ (z : Wall). wallTime a z ≡ when u) (sym y) e))
-    by-stop t h (by-edge o) = later (at-most (λ x. o .later (rim a) x (rim-last acc m .now))) on-sheet
+            later-past (f t o) (ahead .of-walls n l u (subst (λ (z : Wall). wallTime a z ≡ when u) (sym y) e))
+    by-stop t h (by-edge o) = later-past (at-most (λ x. o .later (rim a) x (rim-last acc m .now))) on-sheet
 
     pub before-end : entry a s k <ᶜ past (ends (a .id))
     before-end = by-stop (ends (a .id)) (≤ᵗ-refl (ends (a .id))) (ends-in-time acc m .0 .stops)

@@ -216,7 +216,7 @@ module _ {S : Listing} {g k : ℕ} {w : Sweep} (go : Going S g k w) {r : ℕ} {e
 
   -- what `look_again` asks
   pub again-looks : MayLookOn S (w .crowd .tips) r (tipIn (w .crowd .tips) r .base)
-  again-looks = record { tip-in = event-runs .0; stands = st .looked .base r event-runs .walls .stands; times = λ j h x. st .looked .fine j h .at }
+  again-looks = record { tip-in = event-runs .0; stands = st .looked .base r event-runs .walls .stands; closed = λ j h x. st .looked .ends .ended j h x .closed }
 
   module _ {ts′ : List Tip} (a : LookedAgain S r (getD (w .crowd .marks) r []) (w .crowd .tips) ts′) where
     abbrev new : Tip

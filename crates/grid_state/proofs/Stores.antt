@@ -58,7 +58,7 @@ module _ {S : Listing} {done : List Row} {side : ℕ} {es : List (List Cell)} {b
         long = length-set ts i new ∙ lk .long;
         ends = record {
           running = at-put (λ (k : ℕ) (t : Tip). k < length (S .tracks) → t .ended ≡ 0 → Fresh done (tipAt S k)) ts i new room (lk .ends .running i) (λ k n. lk .ends .running k);
-          ended = at-put (λ (k : ℕ) (t : Tip). k < length (S .tracks) → (t .ended ≡ 0 → ⊥) → Gone done (tipAt S k) (endOf t)) ts i new room (λ l n. absurd (n (r .1))) (λ k n. lk .ends .ended k);
+          ended = at-put (λ (k : ℕ) (t : Tip). k < length (S .tracks) → (t .ended ≡ 0 → ⊥) → Gone done (tipAt S k) (t .best .at)) ts i new room (λ l n. absurd (n (r .1))) (λ k n. lk .ends .ended k);
         };
         fine = at-put (λ (j : ℕ) (t : Tip). j < b → Fine (t .best)) ts i new room (λ l. f) (λ j n. lk .fine j);
         best = at-put (λ (j : ℕ) (t : Tip). (j < b) × (t .ended ≡ 0) → Best S done side (cellsAt es j) marks j (t .best)) ts i new room (λ l. x) (λ j n. lk .best j);

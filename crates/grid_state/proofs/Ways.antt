@@ -317,7 +317,7 @@ module _ {S : Listing} {g b : ℕ} (fig : Figure g) {done : List Row} {es : List
         in-grid = in-grid-first;
         short = omega (arith, ap length none);
         entered = subst (λ (z : List Cell). Entered (tipAt S b) (rim (tipAt S b)) (side g) start (start ∷ z)) (sym none) (entered-first (tipAt S b) (rim (tipAt S b)) (side g) (figure-in fig .0) (rim-opened (st .accepted) (mem-at noTrack (S .tracks) b more)));
-        ahead = first-ahead (st .accepted) done (mem-at noTrack (S .tracks) b more) (side g) (figure-in fig .0);
+        ahead = first-ahead (st .accepted) (st .looked .ends) (mem-at noTrack (S .tracks) b more) (side g) (figure-in fig .0);
       }
 
   pub way-open : WayOf S (side g) (b + 1) b (first (tipAt S b) (side g)) done es (having w (withBest (withBase (w .crowd .tips) b c) b c))

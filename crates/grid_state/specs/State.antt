@@ -6,13 +6,14 @@ use mathlib.Core.List.{List, [], _∷_}
 use Prim.Native.Nat.{ℕ, _+_, _*_, _≤_, _<_}
 use lib.ListN.{length, getD}
 use Rattle.cell_members.specs.Members.{CELLS}
-use Rattle.fraction.specs.Time.{Time, _≤ᵗ_}
+use Rattle.fraction.specs.Time.{Time}
 use Rattle.sheet.specs.declared.Track.{Track}
 use Rattle.sheet.specs.declared.Wall.{Wall}
 use Rattle.sheet.specs.Listing.{Listing, _∈_}
 use Rattle.rule.specs.declared.Row.{Row}
-use Rattle.rule.specs.Causes.{by-bar, by-rim, Below, upTo}
-use Rattle.rule.specs.Contact.{when, hit, contact}
+use Rattle.rule.specs.Causes as rule
+use Rattle.rule.specs.Causes.{by-bar, by-rim, Below}
+use Rattle.rule.specs.Contact.{when, hit, contactTo}
 use Rattle.rule.specs.EdgeTime.{rim}
 use Rattle.rule.specs.WallTime.{wallTime}
 use Rattle.rule.specs.Meanwhile.{Beats}
@@ -86,7 +87,7 @@ pub record Marks (es : List (List Cell)) (b : ℕ) (marks : List (List ℕ)) : T
 -- ---- where the tips are; the tip at x is on its way to a cell, 256 for none
 
 pub record Ahead (S : Listing) (done : List Row) (side : ℕ) (a : Track) (k : Cell) : Type 0 where
-  pub of-tips : (m : ℕ) → m < length (S .tracks) → tipAt S m .id ≢ a .id → (u v : Time) → contact a (tipAt S m) ≡ hit u v → v ≤ᵗ upTo done u (tipAt S m .id) → entry a side k <ᶜ past u
+  pub of-tips : (m : ℕ) → m < length (S .tracks) → tipAt S m .id ≢ a .id → (u v : Time) → contactTo a (tipAt S m) (rule.endOf done (tipAt S m .id)) ≡ hit u v → entry a side k <ᶜ past u
   pub of-walls : (w : ℕ) → w < length (S .walls) → (u : Time) → wallTime a (wallAt S w) ≡ when u → entry a side k <ᶜ past u
 
 pub record Placed (S : Listing) (done : List Row) (side : ℕ) (es : List (List Cell)) (b x : ℕ) (ts : List Tip) : Type 0 where

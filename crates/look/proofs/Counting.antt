@@ -8,18 +8,18 @@ use native.Mathlib.Omega.{arith}
 use borrow.Author.Tests.{eq-eqb, ne-eqb}
 use lib.ListN.{length}
 use Rattle.fraction.specs.Time.{Time, _≤ᵗ_, _<ᵗ_, asTime, notLater}
-use Rattle.fraction.proofs.TimeOrder.{≈ᵗ-sym, ≈ᵗ→≤ᵗ, ≤ᵗ-trans, <ᵗ-≤ᵗ-trans, <ᵗ-irrefl, told-not-later, told-later}
+use Rattle.fraction.proofs.TimeOrder.{<ᵗ-≤ᵗ-trans, <ᵗ-irrefl, told-not-later, told-later}
 use Rattle.sheet.specs.Accepted.{Accepted}
 use Rattle.sheet.specs.Listing.{Listing, _∈_}
 use Rattle.sheet.specs.declared.Track.{Track}
 use Rattle.rule.specs.declared.Row.{Row}
-use Rattle.rule.specs.Contact.{contact}
-use Rattle.rule.proofs.OnSheet.{contact-of, contact-hit}
+use Rattle.rule.specs.Causes as rule
+use Rattle.rule.proofs.OnSheet.{arrives-same}
 use Rattle.rule.proofs.Selection.{up-fresh}
-use Rattle.rule.specs.Meanwhile.{Formal, Live}
+use Rattle.rule.specs.Meanwhile.{OpenedBy, Formal, Live}
 use Rattle.cause.specs.declared.Cause.{Cause}
 use Rattle.cause.specs.Cause.{tipAt, whyOf, candOf, Fine, Stands}
-use Rattle.cause.proofs.Looking.{walls-live}
+use Rattle.cause.proofs.Looking.{walls-live, gone-at, end-opened}
 use Rattle.tips.specs.Tips.{Tip, tipIn}
 use Rattle.look.specs.Ends.{endOf, Ends}
 use Rattle.look.specs.Counts.{Counts, no-track, runs, passed, MayTell, void, stale, Stale}
@@ -97,22 +97,26 @@ stale-means {ts} {i} m = go (ℕ-discrete (tipIn ts i .ended) 0)
     go (yes x) = subst (Stale ts i) (sym (stale-runs ts i x)) (record { yes-runs = λ e. x; yes-void = means x .no-longer; no-counts = λ e _. means x .still e })
     go (no x) = subst (Stale ts i) (sym (stale-ended ts i x)) (record { yes-runs = λ e. absurd (true≢false (sym e)); yes-void = λ e. absurd (true≢false (sym e)); no-counts = λ e y. absurd (x y) })
 
+-- no tip ended before it opened
+pub ends-opened : {S : Listing} {ts : List Tip} {done : List Row} → Ends S ts done → (k : ℕ) → k < length (S .tracks) → OpenedBy (tipAt S k) (rule.endOf done (tipAt S k .id))
+ends-opened e k h = end-opened (e .running k h) (e .ended k h)
+
 -- ---- what counts in the tips counts in the rule
 
 module _ (S : Listing) (acc : Accepted S) (ts : List Tip) (done : List Row) (e : Ends S ts done) (a : Track) (here : a ∈ S .tracks) where
   by-run : (u s : Time) (k w : ℕ) → k ≡ 0 → w < length (S .tracks) → Formal S a u (whyOf S k w s) → tipIn ts w .ended ≡ 0 → Live done u (whyOf S k w s)
   unfolding whyOf
-  by-run u s zero w z h (m, n, f) x = subst (λ (t : Time). s ≤ᵗ t) (sym (up-fresh u done (tipAt S w) (e .running w h x))) (contact-hit (contact a (tipAt S w)) (contact-of acc here (tipAt S w) m n) f .1)
+  by-run u s zero w z h (m, n, f) x = subst (λ (t : Time). s ≤ᵗ t) (sym (up-fresh u done (tipAt S w) (e .running w h x))) (arrives-same acc here (tipAt S w) m n f .1)
   by-run u s (suc k) w z h f x = absurd (omega arith)
 
   by-end : (u s : Time) (k w : ℕ) → k ≡ 0 → w < length (S .tracks) → (tipIn ts w .ended ≡ 0 → ⊥) → s ≤ᵗ endOf (tipIn ts w) → Live done u (whyOf S k w s)
   unfolding whyOf
-  by-end u s zero w z h n y = ≤ᵗ-trans y (≈ᵗ→≤ᵗ (≈ᵗ-sym (e .ended w h n .stops u)))
+  by-end u s zero w z h n y = subst (λ (t : Time). s ≤ᵗ t) (sym (gone-at (e .ended w h n) u)) y
   by-end u s (suc k) w z h n y = absurd (omega arith)
 
   by-stop : (u s : Time) (k w : ℕ) → k ≡ 0 → w < length (S .tracks) → (tipIn ts w .ended ≡ 0 → ⊥) → Live done u (whyOf S k w s) → s ≤ᵗ endOf (tipIn ts w)
   unfolding whyOf
-  by-stop u s zero w z h n l = ≤ᵗ-trans l (≈ᵗ→≤ᵗ (e .ended w h n .stops u))
+  by-stop u s zero w z h n l = subst (λ (t : Time). s ≤ᵗ t) (gone-at (e .ended w h n) u) l
   by-stop u s (suc k) w z h n l = absurd (omega arith)
 
   pub counts-live : {c : Cause} → Stands S a c → Counts ts c → Live done (candOf S c .u) (candOf S c .why)

@@ -7,7 +7,6 @@ use native.Mathlib.Decide.{ℕ-discrete}
 use native.Mathlib.Omega.{arith}
 use lib.ListN.{length, getD}
 use Rattle.fraction.specs.declared.Fraction.{Fraction}
-use Rattle.fraction.specs.Sizes.{Timely}
 use Rattle.sheet.specs.Accepted.{Accepted, TrackOk}
 use Rattle.sheet.specs.HandedIn.{noTrack}
 use Rattle.sheet.specs.Listing.{Listing}
@@ -17,7 +16,7 @@ use Rattle.rule.specs.declared.Row.{Row}
 use Rattle.contact.specs.declared.Touch.{Touch}
 use Rattle.cause.specs.declared.Cause.{Cause}
 use Rattle.cause.specs.Cause.{tipAt, Fine, Stands}
-use Rattle.cause.specs.Offer.{Reached, Taken, TipOffered}
+use Rattle.cause.specs.Offer.{Closed, Reached, Taken, TipOffered}
 use Rattle.cause.specs.Looked.{FirstOfTracks}
 use Rattle.cause.proofs.Looking.{tip-looked, offered-as, then, fewer, none, tip-fine}
 use Rattle.tips.specs.Tips.{Tip, tipIn}
@@ -37,9 +36,9 @@ pub track-ok : (S : Listing) → Accepted S → (i : ℕ) → i < length (S .tra
 track-ok S acc i h e = subst TrackOk (sym e) (acc .tracks-ok (tipAt S i) (mem-at noTrack (S .tracks) i h))
 
 -- the time of a tip that has ended, as it was read
-pub end-timely : {S : Listing} {ts : List Tip} {i : ℕ} {c : Cause} → MayLookOn S ts i c → (k : ℕ) → k < length (S .tracks) → {n : ℕ} (end : Fraction) → n ≡ tipIn ts k .ended → end ≡ tipIn ts k .best .at
-    → (n ≡ 0 → ⊥) → Timely end
-end-timely {ts = ts} m k h end e f x = subst Timely (sym f) (m .times k h (λ y. x (subst (λ (z : ℕ). z ≡ 0) (sym e) y)))
+pub end-closed : {S : Listing} {ts : List Tip} {i : ℕ} {c : Cause} → MayLookOn S ts i c → (k : ℕ) → k < length (S .tracks) → {b : Track} {n : ℕ} (end : Fraction) → b ≡ tipAt S k → n ≡ tipIn ts k .ended → end ≡ tipIn ts k .best .at
+    → (n ≡ 0 → ⊥) → Closed b end
+end-closed {S} {ts} m k h end p e f x = subst (λ (z : Track). Closed z end) (sym p) (subst (Closed (tipAt S k)) (sym f) (m .closed k h (λ y. x (subst (λ (z : ℕ). z ≡ 0) (sym e) y))))
 
 module _ (S : Listing) (acc : Accepted S) (i : ℕ) (in-i : i < length (S .tracks)) (ts : List Tip) (known : List ℕ) where
   pub tracks-start : {c : Cause} → Stands S (tipAt S i) c → TracksUpTo S i ts known 0 c c

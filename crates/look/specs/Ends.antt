@@ -17,4 +17,4 @@ endOf t = asTime (t .best .at)
 
 pub record Ends (S : Listing) (ts : List Tip) (done : List Row) : Type 0 where
   pub running : (k : ℕ) → k < length (S .tracks) → tipIn ts k .ended ≡ 0 → Fresh done (tipAt S k)
-  pub ended : (k : ℕ) → k < length (S .tracks) → (tipIn ts k .ended ≡ 0 → ⊥) → Gone done (tipAt S k) (endOf (tipIn ts k))
+  pub ended : (k : ℕ) → k < length (S .tracks) → (tipIn ts k .ended ≡ 0 → ⊥) → Gone done (tipAt S k) (tipIn ts k .best .at)

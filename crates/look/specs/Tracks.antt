@@ -4,12 +4,12 @@ use mathlib.Core.Logic.{_≢_}
 use mathlib.Core.List.{List}
 use Prim.Native.Nat.{ℕ, _<_}
 use lib.ListN.{length, getD}
-use Rattle.fraction.specs.Sizes.{Timely}
 use Rattle.sheet.specs.Listing.{Listing}
 use Rattle.rule.specs.declared.Row.{Row}
 use Rattle.cause.specs.declared.Cause.{Cause}
 use Rattle.cause.specs.Cause.{tipAt, Fine, Stands}
 use Rattle.cause.specs.Looked.{FirstOfTracks}
+use Rattle.cause.specs.Offer.{Closed}
 use Rattle.tips.specs.Tips.{Tip, tipIn, withBest}
 use Rattle.look.specs.Ends.{Ends}
 
@@ -17,11 +17,11 @@ use Rattle.look.specs.Ends.{Ends}
 abbrev pub Flagged : List ℕ → ℕ → Type 0
 Flagged known j = getD known j 0 ≢ 0
 
--- the tip at i may look, from the cause c on; a tip that has ended has a time
+-- the tip at i may look, from the cause c on; a tip that has ended has the time of a row
 pub record MayLookOn (S : Listing) (ts : List Tip) (i : ℕ) (c : Cause) : Type 0 where
   pub tip-in : i < length (S .tracks)
   pub stands : Stands S (tipAt S i) c
-  pub times : (k : ℕ) → k < length (S .tracks) → (tipIn ts k .ended ≡ 0 → ⊥) → Timely (tipIn ts k .best .at)
+  pub closed : (k : ℕ) → k < length (S .tracks) → (tipIn ts k .ended ≡ 0 → ⊥) → Closed (tipAt S k) (tipIn ts k .best .at)
 
 -- r is the first of c and the tracks with a flag, whatever rows the tips stand for
 pub record TracksLooked (S : Listing) (i : ℕ) (ts : List Tip) (known : List ℕ) (c r : Cause) : Type 0 where

@@ -87,7 +87,7 @@ module _ {S : Listing} (acc : Accepted S) {known : List ℕ} (all : AllKnown kno
       (at-put (λ (k : ℕ) (x : Tip). k < i → Seen S [] k (x .best)) ts i based-tip room (b .seen i) (λ k n. b .seen k))
 
   pub begin-look : MayLookOn S t i (tipIn t i .base)
-  begin-look = record { tip-in = l; stands = t-based i (omega arith) .foremost .stands; times = λ k h x. absurd (x (t-none k)) }
+  begin-look = record { tip-in = l; stands = t-based i (omega arith) .foremost .stands; closed = λ k h x. absurd (x (t-none k)) }
 
   pub begin-next : {u : List Tip} → LookedAgain S i known t u → Begun S u (i + 1)
   begin-next {u} a = subst (λ (z : List Tip). Begun S z (i + 1)) (sym (a .stored)) begun

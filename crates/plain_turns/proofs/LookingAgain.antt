@@ -18,7 +18,7 @@ use Rattle.cause.specs.Cause.{tipAt, candOf, Fine, Stands}
 use Rattle.cause.specs.Looked.{Gone, FirstOfTracks}
 use Rattle.tips.specs.Tips.{Tip, tipIn, withBest}
 use Rattle.tips.proofs.Put.{at-put}
-use Rattle.look.specs.Ends.{endOf, Ends}
+use Rattle.look.specs.Ends.{Ends}
 use Rattle.look.specs.Counts.{MayTell, stale, Stale}
 use Rattle.look.specs.Tracks.{Flagged, MayLookOn, TracksLooked, LookedAgain}
 use Rattle.look.proofs.Counting.{stale-means, counts-live}
@@ -34,7 +34,7 @@ module _ {S : Listing} {ts : List Tip} (h : Held S ts) where
 
   module _ (i : ℕ) (l : i < length (S .tracks)) where
     pub held-look : MayLookOn S ts i (tipIn ts i .base)
-    held-look = record { tip-in = l; stands = h .based i l .foremost .stands; times = λ k m x. h .fine k m .at }
+    held-look = record { tip-in = l; stands = h .based i l .foremost .stands; closed = λ k m x. h .ends .ended k m x .closed }
 
     pub held-tell : Accepted S → MayTell ts i
     held-tell acc =
@@ -87,7 +87,7 @@ module _ {S : Listing} (acc : Accepted S) {known : List ℕ} (all : AllKnown kno
     ends-new done e =
         record {
           running = at-put (λ (j : ℕ) (t : Tip). j < length (S .tracks) → t .ended ≡ 0 → Fresh done (tipAt S j)) ts i new room (e .running i) (λ j n. e .running j);
-          ended = at-put (λ (j : ℕ) (t : Tip). j < length (S .tracks) → (t .ended ≡ 0 → ⊥) → Gone done (tipAt S j) (endOf t)) ts i new room (λ m n. absurd (n x)) (λ j n. e .ended j);
+          ended = at-put (λ (j : ℕ) (t : Tip). j < length (S .tracks) → (t .ended ≡ 0 → ⊥) → Gone done (tipAt S j) (t .best .at)) ts i new room (λ m n. absurd (n x)) (λ j n. e .ended j);
         }
 
     held-new : Held S next

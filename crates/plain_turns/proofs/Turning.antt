@@ -28,11 +28,12 @@ use Rattle.rule.proofs.Turn.{progress-more, beats-step}
 use Rattle.row.specs.Written.{Written}
 use Rattle.cause.specs.declared.Cause.{Cause}
 use Rattle.cause.specs.Cause.{tipAt, candOf, Fine, Stands}
+use Rattle.cause.specs.Offer.{Closed}
 use Rattle.tips.specs.Tips.{Tip, tipIn}
 use Rattle.tips.proofs.Put.{at-put}
 use Rattle.ending.specs.Ended.{EndingOf, nextRow}
 use Rattle.ending.specs.Finished.{MayEnd, finish, Finished}
-use Rattle.ending.proofs.Ended.{row-next, out-next, progress-next}
+use Rattle.ending.proofs.Ended.{row-next, out-next, progress-next, closed-next}
 use Rattle.ending.proofs.Endings.{row-is}
 use Rattle.ending.proofs.Rolling.{written-next}
 use Rattle.ending.proofs.Ends.{runs-on, over, over-fine, ends-next}
@@ -95,6 +96,9 @@ module _ {S : Listing} (acc : Accepted S) {ts new : List Tip} {k i : ℕ} (st : 
       turn-at noTrack acc cand i (st .progress) (p .place, fresh) (stands .formal) (f .live done (st .kept) i (p .place) runs)
       (λ j r. behind j (r .0) (runs-on (kept .ends) j (r .0) (r .1)) .1) seen-at
 
+  closed : Closed (tipAt S i) (row .at)
+  closed = closed-next acc (st .out) progress (tipAt S i) (on i (p .place)) refl
+
   -- ---- the row
 
   pub turn-named : {c : Cause} → c ≡ tipIn new i .best → Fine c × (c .id ≤ 65535)
@@ -126,12 +130,12 @@ module _ {S : Listing} (acc : Accepted S) {ts new : List Tip} {k i : ℕ} (st : 
         step j h q =
             record {
               foremost = q .foremost;
-              at-tips = λ m g x. beats-step (tipAt S i) row acc (on j h) (on m g) x refl (record { on-sheet = on i (p .place); fresh = fresh }) (q .at-tips m g x);
+              at-tips = λ m g x. beats-step (tipAt S i) row acc (on j h) (on m g) x refl (record { on-sheet = on i (p .place); fresh = fresh }) (closed .opened) (q .at-tips m g x);
             }
 
         state : State S (k + 1) (finish new i)
         state =
-            let e = ends-next acc (kept .ends) (p .place) room in
+            let e = ends-next acc (kept .ends) (p .place) room closed in
             record {
               held = record {
                 long = length-set new i (over (tipIn new i)) ∙ f .held .long;

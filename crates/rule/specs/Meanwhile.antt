@@ -9,12 +9,13 @@ use Rattle.fraction.specs.Time.{Time, _≤ᵗ_, _<ᵗ_, _≈ᵗ_}
 use Rattle.sheet.specs.declared.Track.{Track}
 use Rattle.sheet.specs.Listing.{Listing, _∈_}
 use Rattle.rule.specs.declared.Row.{Row}
+use Rattle.rule.specs.Motion.{opening}
 use Rattle.rule.specs.Rule.{Stops}
 use Rattle.rule.specs.Rows.{time, RuleRow}
-use Rattle.rule.specs.Contact.{when, hit, contact}
+use Rattle.rule.specs.Contact.{Quot, never, when, hit, contact, contactTo}
 use Rattle.rule.specs.WallTime.{wallTime}
 use Rattle.rule.specs.EdgeTime.{rim}
-use Rattle.rule.specs.Causes.{Why, by-tip, by-bar, by-rim, Cand, Below, upTo}
+use Rattle.rule.specs.Causes.{Why, by-tip, by-bar, by-rim, Cand, Below, upTo, endOf}
 use Rattle.rule.specs.Selection.{left}
 
 -- ---- the tips
@@ -57,9 +58,20 @@ pub data Run (S : Listing) : List Row → List Row → Type 0 where
 
 -- ---- causes of ending, whether or not they still count
 
+-- b had opened by its end k, if it has one
+abbrev pub OpenedBy : Track → Quot → Type 0
+OpenedBy b never = Unit {0}
+OpenedBy b (when e) = opening b ≤ᵗ e
+
+-- for some end of b, or none, tip a at u comes to where tip b was at s
+pub record Arrives (a b : Track) (u s : Time) : Type 0 where
+  pub end : Quot
+  pub opened-by : OpenedBy b end
+  pub hits : contactTo a b end ≡ hit u s
+
 -- u and y are a contact, a wall or the edge of a, whether or not it still counts
 abbrev pub Formal : Listing → Track → Time → Why → Type 0
-Formal S a u (by-tip b s) = (b ∈ S .tracks) × (b .id ≢ a .id) × (contact a b ≡ hit u s)
+Formal S a u (by-tip b s) = (b ∈ S .tracks) × (b .id ≢ a .id) × Arrives a b u s
 Formal S a u (by-bar w) = (w ∈ S .walls) × (wallTime a w ≡ when u)
 Formal S a u by-rim = u ≡ rim a
 
@@ -69,15 +81,17 @@ Live done u (by-tip b s) = s ≤ᵗ upTo done u (b .id)
 Live done u (by-bar w) = Unit {0}
 Live done u by-rim = Unit {0}
 
--- c is not after the contact of a with b, unless b had ended before
+-- c is not after the contact of a with b, as far as b has come
 pub record Beats (done : List Row) (c : Cand) (a b : Track) : Type 0 where
-  pub beats : (u s : Time) → contact a b ≡ hit u s → s ≤ᵗ upTo done u (b .id) → Below c u (by-tip b s)
+  pub beats : (u s : Time) → contactTo a b (endOf done (b .id)) ≡ hit u s → Below c u (by-tip b s)
 
 -- ---- the rows so far
 
 -- no ended tip ran by its contact with another, unless that one had ended before: it ended there at the latest
 pub record Honest (S : Listing) (done : List Row) : Type 0 where
   pub honest : (d : Row) (b a : Track) (t s : Time) → d ∈ done → d .id ≡ b .id → b ∈ S .tracks → a ∈ S .tracks → a .id ≢ b .id → contact b a ≡ hit t s → s ≤ᵗ upTo done t (a .id) → time d ≤ᵗ t
+  -- and none ended before it opened
+  pub opened-by : (d : Row) (b : Track) → d ∈ done → d .id ≡ b .id → b ∈ S .tracks → opening b ≤ᵗ time d
 
 -- `rows` have been written, in this order; `done` are the same, the newest first. Whatever comes out after them makes a run with them
 pub record Progress (S : Listing) (rows done : List Row) : Type 0 where

@@ -121,7 +121,7 @@ fn item_at(s: &[u8], at: usize) -> Item
     Item::Add(c)
 }
 
-// The least of 8 to 11 that a command breaks with one before it. Those before are read again from the bytes:
+// The least of 8 to 10 that a command breaks with one before it. Those before are read again from the bytes:
 // no array of records is kept.
 fn clash_before(s: &[u8], at: usize, c: Command) -> u8
     requires { ⌜ ((before : List Command) × Walk (now s) 0 at before) ⌝ }

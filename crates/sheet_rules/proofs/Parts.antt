@@ -7,7 +7,7 @@ use Prim.Native.Nat.{ℕ, _≤_}
 use native.Mathlib.Omega.{arith}
 use lib.Dec.{eqb, lit≤}
 use Rattle.sheet.specs.declared.Command.{Command}
-use Rattle.sheet.specs.Table.{table, no-line, firstBroken, any, tooMany, offSheet, wrongSpeed, equalEnds, sameId, startUsed, startOnWall, facingTips}
+use Rattle.sheet.specs.Table.{table, no-line, firstBroken, any, tooMany, offSheet, wrongSpeed, equalEnds, sameId, startUsed, startOnWall}
 use Rattle.sheet_rules.specs.Judged.{aloneOf, clashOf, lesser, worstOf}
 use Rattle.sheet_rules.proofs.Choices.{choice-above, lesser-right, lesser-is-right, lesser-assoc, lesser-choice}
 
@@ -27,49 +27,44 @@ worst-step w c d l = lesser-assoc w (clashOf c d) (worstOf c l)
 
 -- ---- the least clash goes by the lines in their order
 
-pick : Bool → Bool → Bool → Bool → ℕ
-pick p q r s = cond p 8 (cond q 9 (cond r 10 (cond s 11 no-line)))
+pick : Bool → Bool → Bool → ℕ
+pick p q r = cond p 8 (cond q 9 (cond r 10 no-line))
 
-pick-lesser : (p q r s p′ q′ r′ s′ : Bool) → lesser (pick p q r s) (pick p′ q′ r′ s′) ≡ pick (p || p′) (q || q′) (r || r′) (s || s′)
+pick-lesser : (p q r p′ q′ r′ : Bool) → lesser (pick p q r) (pick p′ q′ r′) ≡ pick (p || p′) (q || q′) (r || r′)
 unfolding pick
-pick-lesser p q r s p′ q′ r′ s′ =
-    lesser-choice p p′ (eight q r s) (eight q′ r′ s′)
-    ∙ ap (cond (p || p′) 8) (lesser-choice q q′ (nine r s) (nine r′ s′)
-    ∙ ap (cond (q || q′) 9) (lesser-choice r r′ (ten s) (ten s′)
-    ∙ ap (cond (r || r′) 10) (lesser-choice s s′ (lit≤ tt) (lit≤ tt))))
+pick-lesser p q r p′ q′ r′ =
+    lesser-choice p p′ (eight q r) (eight q′ r′)
+    ∙ ap (cond (p || p′) 8) (lesser-choice q q′ (nine r) (nine r′)
+    ∙ ap (cond (q || q′) 9) (lesser-choice r r′ (lit≤ tt) (lit≤ tt)))
   where
-    ten : (s : Bool) → 10 ≤ cond s 11 no-line
-    ten s = choice-above s (lit≤ tt) (lit≤ tt)
+    nine : (r : Bool) → 9 ≤ cond r 10 no-line
+    nine r = choice-above r (lit≤ tt) (lit≤ tt)
 
-    nine : (r s : Bool) → 9 ≤ cond r 10 (cond s 11 no-line)
-    nine r s = choice-above r (lit≤ tt) (omega (arith, ten s))
+    eight : (q r : Bool) → 8 ≤ cond q 9 (cond r 10 no-line)
+    eight q r = choice-above q (lit≤ tt) (omega (arith, nine r))
 
-    eight : (q r s : Bool) → 8 ≤ cond q 9 (cond r 10 (cond s 11 no-line))
-    eight q r s = choice-above q (lit≤ tt) (omega (arith, nine r s))
-
-worst-by-lines : (c : Command) (l : List Command) → worstOf c l ≡ pick (any (sameId c) l) (any (startUsed c) l) (any (startOnWall c) l) (any (facingTips c) l)
+worst-by-lines : (c : Command) (l : List Command) → worstOf c l ≡ pick (any (sameId c) l) (any (startUsed c) l) (any (startOnWall c) l)
 unfolding worstOf clashOf any pick
 worst-by-lines c [] = refl
-worst-by-lines c (d ∷ l) = rw (worst-by-lines c l) (pick-lesser (sameId c d) (startUsed c d) (startOnWall c d) (facingTips c d) _ _ _ _)
+worst-by-lines c (d ∷ l) = rw (worst-by-lines c l) (pick-lesser (sameId c d) (startUsed c d) (startOnWall c d) _ _ _)
 
 -- ---- the table
 
 alone : Bool → Bool → Bool → ℕ
 alone a b e = cond a 4 (cond b 5 (cond e 6 no-line))
 
-by-parts : (t a b e p q r s : Bool) →
-    cond t 7 (cond a 4 (cond b 5 (cond e 6 (cond p 8 (cond q 9 (cond r 10 (cond s 11 no-line)))))))
-    ≡ cond t 7 (cond (eqb (alone a b e) no-line) (pick p q r s) (alone a b e))
+by-parts : (t a b e p q r : Bool) →
+    cond t 7 (cond a 4 (cond b 5 (cond e 6 (cond p 8 (cond q 9 (cond r 10 no-line))))))
+    ≡ cond t 7 (cond (eqb (alone a b e) no-line) (pick p q r) (alone a b e))
 unfolding pick alone
-by-parts true a b e p q r s = refl
-by-parts false true b e p q r s = refl
-by-parts false false true e p q r s = refl
-by-parts false false false true p q r s = refl
-by-parts false false false false true q r s = refl
-by-parts false false false false false true r s = refl
-by-parts false false false false false false true s = refl
-by-parts false false false false false false false true = refl
-by-parts false false false false false false false false = refl
+by-parts true a b e p q r = refl
+by-parts false true b e p q r = refl
+by-parts false false true e p q r = refl
+by-parts false false false true p q r = refl
+by-parts false false false false true q r = refl
+by-parts false false false false false true r = refl
+by-parts false false false false false false true = refl
+by-parts false false false false false false false = refl
 
 pub table-by-parts :
     (before : List Command) (c : Command) →
@@ -78,4 +73,4 @@ pub table-by-parts :
 unfolding firstBroken table aloneOf alone
 table-by-parts before c =
     rw (worst-by-lines c before)
-    (by-parts (tooMany before c) (offSheet c) (wrongSpeed c) (equalEnds c) (any (sameId c) before) (any (startUsed c) before) (any (startOnWall c) before) (any (facingTips c) before))
+    (by-parts (tooMany before c) (offSheet c) (wrongSpeed c) (equalEnds c) (any (sameId c) before) (any (startUsed c) before) (any (startOnWall c) before))

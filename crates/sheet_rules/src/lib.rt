@@ -1,10 +1,9 @@
-// The table's tests on one command and on two (SHEETS 3.1, 3.5, 3.6), exact: products in 64 bits.
+// The table's tests on one command and on two (SHEETS 3.1, 3.5), exact: products in 64 bits.
 // `|` and `&` where both sides are cheap, an early return where the first test nearly always decides.
 ghost use mathlib.Core.Path.{_≡_};
 ghost use mathlib.Core.Bool.{Bool, _&&_, _||_, cond};
 ghost use lib.Dec.{eqb, ltb};
-ghost use lib.IntN.{pos, natAbs, _*ℤ_};
-ghost use lib.Signed.{leZ};
+ghost use lib.IntN.{natAbs, _*ℤ_};
 ghost use Rattle.sheet.specs.Table as table;
 ghost use Rattle.sheet_rules.specs.Judged.{aloneOf, clashOf, lesser};
 use sheet::Command;
@@ -117,13 +116,6 @@ fn parallel(ux: i32, uy: i32, vx: i32, vy: i32) -> bool
     product(ux, vy) == product(uy, vx)
 }
 
-// d and v do not point in opposite directions.
-fn forward(d: i32, v: i32) -> bool
-    ensures { λ r. ⌜ r ≡ leZ (pos 0) (d *ℤ v) ⌝ }
-{
-    0 <= product(d, v)
-}
-
 // p between a and b, both included.
 fn between(a: u16, b: u16, p: u16) -> bool
     ensures { λ r. ⌜ r ≡ table.between a b p ⌝ }
@@ -153,39 +145,6 @@ fn start_on(a: Track, w: Wall) -> bool
     false
 }
 
-// (dx, dy) lies along (vx, vy), and not behind.
-fn onward(dx: i32, dy: i32, vx: i32, vy: i32) -> bool
-    ensures { λ r. ⌜ r ≡ (table.isZero (table.cross dx dy vx vy) && (leZ (pos 0) (dx *ℤ vx) && leZ (pos 0) (dy *ℤ vy))) ⌝ }
-{
-    if parallel(dx, dy, vx, vy) {
-        return forward(dx, vx) & forward(dy, vy);
-    }
-    false
-}
-
-fn speed(v: i8) -> i32
-    ensures { λ r. ⌜ r ≡ v ⌝ }
-{
-    v as i32
-}
-
-// The start of b is on the line of tip a, and not behind it.
-fn ahead(a: Track, b: Track) -> bool
-    ensures { λ r. ⌜ r ≡ table.ahead a b ⌝ }
-{
-    onward(gap(a.x, b.x), gap(a.y, b.y), speed(a.vx), speed(a.vy))
-}
-
-// The two tips face each other (SHEETS 3.6).
-fn facing(a: Track, b: Track) -> bool
-    ensures { λ r. ⌜ r ≡ table.facing a b ⌝ }
-{
-    if ahead(a, b) {
-        return ahead(b, a);
-    }
-    false
-}
-
 // By whichever of 01 and 03 each is listed; start times play no part.
 fn tracks_clash(a: Track, b: Track) -> u8
     ensures { λ r. ⌜ ((p q : Bool) → r ≡ clashOf (Command.AddTrack a p) (Command.AddTrack b q)) ⌝ }
@@ -195,9 +154,6 @@ fn tracks_clash(a: Track, b: Track) -> u8
     }
     if same_point(a.x, a.y, b.x, b.y) {
         return 9;
-    }
-    if facing(a, b) {
-        return 11;
     }
     NO_LINE
 }
@@ -215,7 +171,7 @@ fn walls_clash(v: Wall, w: Wall) -> u8
     if v.id == w.id { 8 } else { NO_LINE }
 }
 
-// The first of 8 to 11 that c breaks with d before it.
+// The first of 8 to 10 that c breaks with d before it.
 pub fn clash(c: Command, d: Command) -> u8
     ensures { λ r. ⌜ r ≡ clashOf c d ⌝ }
 {

@@ -3,7 +3,7 @@
 use super::{track, wall};
 use crate::sheet::{listing, Command};
 
-/// Two tips on one line, facing (SHEETS 3.6) or back to back.
+/// Two tips on one line, facing or back to back.
 fn on_one_line(way: i8) -> Vec<Command> {
     vec![track(1, 0, 0, way, 0), track(2, 10, 0, -way, 0)]
 }

@@ -1,4 +1,5 @@
-//! Refusals 8 to 11 where they depend on the plane: starts on and beside walls, tips on one line.
+//! Refusals 9 and 10 where they depend on the plane: starts on and beside walls. And sheets near to
+//! these that are accepted: walls that overlap, tips on one line.
 
 use super::{track, wall};
 use crate::plane::Vector;
@@ -87,7 +88,7 @@ fn tips_on_one_line() -> Vec<Vec<u8>> {
     sheets
 }
 
-/// A facing pair with other commands before, between and after; a wall between them changes nothing.
+/// A facing pair with other commands before, between and after it.
 fn facing_among_others() -> Vec<Vec<u8>> {
     let (left, right) = (track(1, 10, 50, 63, 0), track(2, 4000, 50, -1, 0));
     let (between, other) = (wall(1, 99, 40, 99, 60), track(3, 500, 50, 0, 7));

@@ -92,7 +92,7 @@ fn counts() -> Vec<Vec<u8>> {
     sheets
 }
 
-/// Pairs of which the later is refused, whatever the start times: 8, 9, 10 and 11; and some that are not.
+/// Pairs of which the later is refused, whatever the start times: 8, 9 and 10; and some that are not.
 fn pairs() -> Vec<Vec<u8>> {
     let first = |time| late(1, 20, 20, 5, 0, time);
     let others = |time| {

@@ -1,8 +1,9 @@
 //! Chosen sheets: the starred ones, each line of the refusal table at its limits, endings that the
-//! rule has to tell apart, start times in all of these, shapes, and sides.
+//! rule has to tell apart, start times in all of these, shapes, sides, and tips that face.
 
 pub mod document;
 pub mod endings;
+pub mod facing;
 pub mod form;
 pub mod geometry;
 pub mod handed_in;
@@ -43,10 +44,10 @@ pub fn walls(count: u16) -> Vec<Command> {
 
 /// Every chosen sheet in bytes.
 pub fn all() -> Vec<Vec<u8>> {
-    [without_start_times(), late::sheets(), shapes::sheets(), sides::sheets()].concat()
+    [without_start_times(), late::sheets(), shapes::sheets(), sides::sheets(), facing::sheets()].concat()
 }
 
-/// Those that are about neither 03 nor shapes nor sides.
+/// Those that are about neither 03 nor shapes nor sides, nor above all about facing tips.
 pub fn without_start_times() -> Vec<Vec<u8>> {
     let document = document::sheets().into_iter().map(|(_, sheet)| sheet);
     document

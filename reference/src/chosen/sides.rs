@@ -28,7 +28,7 @@ fn between(id: u16, a: Vector, b: Vector) -> Command {
 /// What can end a tip with the speed 10 · `way` at the point at `TIME`.
 fn causes(id: u16, at: Vector, way: Vector) -> [Command; 10] {
     let left = Vector { x: -way.y, y: way.x };
-    // Not opposite to each other: two tips that face are refused.
+    // Not opposite to each other, so that each comes on a line of its own.
     let (to_left, to_right) = (left * 10, way * 5 - left * 10);
     let opened = |speed: Vector| late(id, at.x as u16, at.y as u16, speed.x as i8, speed.y as i8, 4);
     [
@@ -100,7 +100,7 @@ pub fn example() -> Vec<u8> {
     ])
 }
 
-/// Without the few that are refused: an opening at the point where a wall is or another track opens, tips that face.
+/// Without the few that are refused: an opening at the point where a wall is or another track opens.
 pub fn sheets() -> Vec<Vec<u8>> {
     let sheets = [two_causes(), at_the_edge(), every_way()].concat();
     sheets.into_iter().map(listing).filter(|sheet| read(sheet).is_ok()).collect()

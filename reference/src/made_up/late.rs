@@ -163,7 +163,7 @@ pub fn doubtful(rng: &mut Rng) -> Vec<u8> {
     listing((0..count).map(|_| doubtful_command(rng, &ground)))
 }
 
-/// An accepted sheet with a command somewhere that breaks one of the rules 8 to 11, at any start time.
+/// An accepted sheet with a provoking command somewhere, at any start time.
 pub fn provoked(rng: &mut Rng) -> Vec<u8> {
     let (ground, draws) = (ground(rng), 4 + rng.below(8));
     let Kept { records, mut listed } = drawn(rng, &ground, draws);

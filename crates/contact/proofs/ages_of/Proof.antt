@@ -59,18 +59,23 @@ reach-requires-2 : tie.Need-reach-requires-2
 reach-requires-2 c κs =
     (within-arg _ _ _ (c .before .gap3 .ensures .1) tt tt, within-arg _ _ _ (c .gap4 .ensures .1) tt tt, within-arg _ _ _ (c .before .before .before .before .before .before .before .speed3 .ensures .1) tt tt, within-arg _ _ _ (c .before .before .before .before .before .speed4 .ensures .1) tt tt)
 
-at-start-of-requires : tie.Need-at-start-of-requires
-at-start-of-requires c κs = search needs
+gap-requires-5 : tie.Need-gap-requires-5
+gap-requires-5 c κs = let p = c .before .before .before .before .before .before .before .before .before .before .before .before .before .before .before .before .pre in (p .1 .start-in, p .0 .start-in)
+
+on-line-requires : tie.Need-on-line-requires
+on-line-requires c κs =
+    (c .before .before .before .before .reach .ensures .1, c .before .reach2 .ensures .1, within-arg _ _ _ (c .before .before .before .before .before .before .before .before .before .before .before .before .before .before .before .before .gap .ensures .1) tt tt, within-arg _ _ _ (c .before .before .before .before .before .before .before .before .before .before .before .before .before .before .before .gap2 .ensures .1) tt tt, within-arg _ _ _ (c .before .before .before .before .before .before .before .before .before .before .before .before .before .speed .ensures .1) tt tt, within-arg _ _ _ (c .before .before .before .before .before .before .before .before .before .before .before .speed2 .ensures .1) tt tt, within-arg _ _ _ (c .before .before .before .before .before .before .before .before .before .speed3 .ensures .1) tt tt, within-arg _ _ _ (c .before .before .before .before .before .before .before .speed4 .ensures .1) tt tt, within-arg _ _ _ (c .gap5 .ensures .1) tt tt)
 
 returns : tie.Need-returns
 returns c =
-    let s = seen (c .before .before .before .before .before .before) in
-    let t = c .before .before .before .before .before .before .before .before .before .before .before .before .before .before .before .before .before .args in
-    let x = reads (c .before .before .before .gap3 .ensures) tt in
-    let y = reads (c .before .before .gap4 .ensures) tt in
-    let far = rw (x, y, s .vx-is, s .vy-is) at (c .before .reach2 .ensures .0) ∙ gone-reach (t .b) (t .a) in
-    let r = c .at-start-of .ensures in
-    (r .0 ∙ ages-line _ _ (seen-zero s (c .before .before .before .before .before .if1 .taken)) (seen-reach s (c .before .before .before .before .reach .ensures .0)) far, r .1)
+    let s = seen (c .before .before .before .before .before .before .before) in
+    let t = c .before .before .before .before .before .before .before .before .before .before .before .before .before .before .before .before .before .before .args in
+    let x = reads (c .before .before .before .before .gap3 .ensures) tt in
+    let y = reads (c .before .before .before .gap4 .ensures) tt in
+    let k = reads (c .before .gap5 .ensures) tt in
+    let far = rw (x, y, s .vx-is, s .vy-is) at (c .before .before .reach2 .ensures .0) ∙ gone-reach (t .b) (t .a) in
+    let r = c .on-line .ensures in
+    (rw (s .x-is, s .y-is, s .ux-is, s .uy-is, s .vx-is, s .vy-is, k) at (r .0) ∙ ages-line _ _ (seen-zero s (c .before .before .before .before .before .before .if1 .taken)) (seen-reach s (c .before .before .before .before .before .reach .ensures .0)) far, r .1)
 
 crossing-requires : tie.Need-crossing-requires
 crossing-requires c κs =
@@ -97,7 +102,8 @@ ages-of-spec =
     gap-requires-3
     gap-requires-4
     reach-requires-2
-    at-start-of-requires
+    gap-requires-5
+    on-line-requires
     returns
     crossing-requires
     returns-2)

@@ -8,7 +8,7 @@ use mathlib.Core.Logic.{⊎-elim}
 use Rattle.cause.proofs.Answers.{reached-timely}
 use Rattle.records.specs.Records.{sheetIn}
 use Rattle.tips.specs.Tips.{tipsIn}
-use Rattle.look.proofs.Tracks.{TracksUpTo, track-ok, end-timely, tracks-start, offers, track-turn, track-skipped, tracks-end}
+use Rattle.look.proofs.Tracks.{TracksUpTo, track-ok, end-closed, tracks-start, offers, track-turn, track-skipped, tracks-end}
 use Rattle.look.proofs.look_tracks.Statement.{statement}
 use Rattle.look.proofs.look_tracks.Tie as tie
 
@@ -46,7 +46,7 @@ on-trace-requires c κs = let o = c .before .before .before .before .before .bef
     let h : k < length (sheetIn (o .args .records .now) .tracks) = omega (arith, c .before .before .before .before .before .loop-test .taken, c .before .before .before .before .before .before .before .before .track-count .ensures) in
     let S = sheetIn (o .args .records .now) in
     let acc = o .pre .0 .accepted in
-    (track-ok S acc (o .args .i) (o .pre .3 .tip-in) (c .before .before .before .before .before .before .before .track-at .ensures), track-ok S acc k h (c .before .before .track-at2 .ensures), end-timely (o .pre .3) k h (c .end-of .result) (c .before .ended .ensures) (c .end-of .ensures))
+    (track-ok S acc (o .args .i) (o .pre .3 .tip-in) (c .before .before .before .before .before .before .before .track-at .ensures), track-ok S acc k h (c .before .before .track-at2 .ensures), end-closed (o .pre .3) k h (c .end-of .result) (c .before .before .track-at2 .ensures) (c .before .ended .ensures) (c .end-of .ensures))
 
 with-track-requires : tie.Need-with-track-requires Inv-loop μ-loop
 with-track-requires c κs = (c .before .before .before .before .before .before .before .loop .inv .1 .fine, reached-timely (c .on-trace .ensures))

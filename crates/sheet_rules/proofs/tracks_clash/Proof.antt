@@ -16,23 +16,10 @@ returns-2 : tie.Need-returns-2
 unfolding clashOf
 returns-2 c = λ p q. rw (ne-eqb _ _ (c .before .before .if1 .left), ← c .before .same-point .ensures, c .if2 .taken)
 
-facing-requires : tie.Need-facing-requires
-facing-requires c κs = search needs
-
 returns-3 : tie.Need-returns-3
 unfolding clashOf
-returns-3 c =
-    λ p q.
-    let b = c .before .before in
-    rw (ne-eqb _ _ (b .before .before .if1 .left), ← b .before .same-point .ensures, b .if2 .left, ← c .before .facing .ensures, c .if3 .taken)
-
-returns-4 : tie.Need-returns-4
-unfolding clashOf
-returns-4 c =
-    λ p q.
-    let b = c .before .before in
-    rw (ne-eqb _ _ (b .before .before .if1 .left), ← b .before .same-point .ensures, b .if2 .left, ← c .before .facing .ensures, c .if3 .left)
+returns-3 c = λ p q. rw (ne-eqb _ _ (c .before .before .if1 .left), ← c .before .same-point .ensures, c .if2 .left)
 
 pub tracks-clash-spec : {M : Type 1} → statement M
 tracks-clash-spec =
-    tie.close (tie.spec returns same-point-requires returns-2 facing-requires returns-3 returns-4)
+    tie.close (tie.spec returns same-point-requires returns-2 returns-3)

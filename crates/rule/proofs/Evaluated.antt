@@ -1,4 +1,4 @@
--- The sheets whose tips open later: `late-computed`, `rollOf` evaluated; so the rule yields each roll of the table (`late-roll`).
+-- The sheets whose tips open later or face each other: `evaluated-is`, `rollOf` evaluated; so the rule yields each roll of the table (`evaluated-roll`).
 use mathlib.Core.Path.{_≡_, refl, sym, subst}
 use mathlib.Core.Logic.{_⊎_, inl, inr}
 use mathlib.Core.Bool.{Bool}
@@ -9,7 +9,7 @@ use Rattle.sheet.specs.Listing.{_∈_}
 use Rattle.rule.specs.declared.Row.{Row}
 use Rattle.rule.specs.Roll.{RollOf}
 use Rattle.rule.specs.Selection.{rollOf}
-use Rattle.rule.specs.Starred.{Starred, listingOf, lateSheets}
+use Rattle.rule.specs.Starred.{Starred, listingOf, evaluated}
 use Rattle.rule.proofs.Tests.{all, all-at}
 use Rattle.rule.proofs.Existence.{roll-of}
 use Rattle.rule.proofs.AcceptCheck.{accept, accept-sound}
@@ -30,25 +30,25 @@ each-at P (x ∷ l) h e m = go (List·Memᴰ·cases-cons m) (each-at P l (h .1) 
 Computed : Starred → Type 0
 Computed e = rollOf (listingOf e) ≡ e .roll
 
-table-ok : Each Computed lateSheets
-unfolding Each Computed lateSheets rollOf
-table-ok = (refl, (refl, (refl, tt)))
+table-ok : Each Computed evaluated
+unfolding Each Computed evaluated rollOf
+table-ok = (refl, (refl, (refl, (refl, (refl, (refl, (refl, tt)))))))
 
 accept-ok : Starred → Bool
 unfolding accept
 accept-ok e = accept (listingOf e)
 
-table-accepted : T (all accept-ok lateSheets)
-unfolding accept-ok lateSheets
+table-accepted : T (all accept-ok evaluated)
+unfolding accept-ok evaluated
 table-accepted = tt
 
-pub late-accepted : (e : Starred) → e ∈ lateSheets → Accepted (listingOf e)
+pub evaluated-accepted : (e : Starred) → e ∈ evaluated → Accepted (listingOf e)
 unfolding accept-ok
-late-accepted e m = accept-sound (listingOf e) (all-at accept-ok lateSheets table-accepted e m)
+evaluated-accepted e m = accept-sound (listingOf e) (all-at accept-ok evaluated table-accepted e m)
 
-pub late-computed : (e : Starred) → e ∈ lateSheets → rollOf (listingOf e) ≡ e .roll
+pub evaluated-is : (e : Starred) → e ∈ evaluated → rollOf (listingOf e) ≡ e .roll
 unfolding Computed
-late-computed e m = each-at Computed lateSheets table-ok e m
+evaluated-is e m = each-at Computed evaluated table-ok e m
 
-pub late-roll : (e : Starred) → e ∈ lateSheets → RollOf (listingOf e) (e .roll)
-late-roll e m = subst (λ (l : List Row). RollOf (listingOf e) l) (late-computed e m) (roll-of (listingOf e) (late-accepted e m))
+pub evaluated-roll : (e : Starred) → e ∈ evaluated → RollOf (listingOf e) (e .roll)
+evaluated-roll e m = subst (λ (l : List Row). RollOf (listingOf e) l) (evaluated-is e m) (roll-of (listingOf e) (evaluated-accepted e m))
