@@ -16,7 +16,7 @@ use Rattle.rule.specs.Rows.{time, timeOf, FirstTrack, FirstWall, Cause, FromTra
 use Rattle.rule.specs.declared.Side.{Side}
 use Rattle.rule.specs.Side.{trackSide, wallSide}
 use Rattle.rule.specs.Selection.{rollOf}
-use Rattle.rule.proofs.Consequences.{partner-ends}
+use Rattle.rule.proofs.Consequences.{partner-ends, end-in}
 use Rattle.rule.proofs.Existence.{roll-of}
 use Rattle.rule.proofs.Motion.{same-sym}
 use Rattle.rule.proofs.OneRoll.{timeOf-row, meets}
@@ -79,7 +79,7 @@ module _ (l : List Command) (acc : Accepted (listing l)) where
       let m = in-roll l acc r h in
       let (a, i, e) = the-roll .meets .is-set .no-other r m in
       let k = the-roll .meets .by-rule r a m i e in
-      record { tip = a; on-sheet = i; own = e; lands = lands r m a i e (r .ending) (r .side) (k .cause) (k .came); x-rounded = k .rounded-x; y-rounded = k .rounded-y }
+      record { tip = a; on-sheet = i; own = e; lands = lands r m a i e (r .ending) (r .side) (k .cause) (k .came); x-rounded = k .rounded-x; y-rounded = k .rounded-y; inside = end-in acc r m }
 
 pub mapping : (l : List Command) → Accepted (listing l) → Mapping l
 mapping l acc =

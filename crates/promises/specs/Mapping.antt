@@ -3,8 +3,10 @@
 use mathlib.Core.Path.{_≡_}
 use mathlib.Core.Logic.{_≢_}
 use mathlib.Core.List.{List}
-use Prim.Native.Nat.{ℕ}
+use Prim.Native.Nat.{ℕ, _≤_}
 use Rattle.fraction.specs.Time.{Time, _≤ᵗ_, _<ᵗ_, _≈ᵗ_}
+use Rattle.fraction.specs.Whole.{_·_}
+use Rattle.rounding.specs.Nearest.{Nearest}
 use Rattle.sheet.specs.declared.Command.{Command}
 use Rattle.sheet.specs.declared.Track.{Track}
 use Rattle.sheet.specs.declared.Wall.{Wall}
@@ -18,7 +20,7 @@ use Rattle.rule.specs.declared.Side.the-variants.{NoSide}
 use Rattle.rule.specs.Motion.{X, Y, opening, Same, OnWall, LastInside}
 use Rattle.rule.specs.Side.{trackSide, wallSide}
 use Rattle.rule.specs.Beside.{Line, trackLine, wallLine, offset, On}
-use Rattle.rule.specs.Rows.{time, Rounded}
+use Rattle.rule.specs.Rows.{time, farBorder}
 use Rattle.promises.specs.Runs.{Run, rowCount, Room, Reads, InRoll}
 
 -- the time in tip b's own row is as P says
@@ -44,14 +46,15 @@ pub data Lands (l : List Command) (a : Track) (t : Time) : Ending → Side → T
   -- kind 4: at the last moment inside the sheet
   at-edge : LastInside a t → Lands l a t Edge NoSide
 
--- a row's own tip, at the row's time, is there; the row's point is that point in 64ths, rounded down
+-- a row's own tip, at the row's time, is there; the row's point is that point in 64ths, to the nearest, at an exact half to the even, and on the sheet still (SHEETS 5.4)
 pub record EndPoint (l : List Command) (r : Row) : Type 0 where
   pub tip : Track
   pub on-sheet : tip ∈ tracksOf l
   pub own : r .id ≡ tip .id
   pub lands : Lands l tip (time r) (r .ending) (r .side)
-  pub x-rounded : Rounded (X tip (time r)) (r .at .den) (r .x)
-  pub y-rounded : Rounded (Y tip (time r)) (r .at .den) (r .y)
+  pub x-rounded : Nearest (X tip (time r) · 64) (r .at .den) (r .x)
+  pub y-rounded : Nearest (Y tip (time r) · 64) (r .at .den) (r .y)
+  pub inside : (r .x ≤ farBorder) × (r .y ≤ farBorder)
 
 pub record Mapping (l : List Command) : Type 0 where
   -- with room for them a run writes as many rows as there are tracks
