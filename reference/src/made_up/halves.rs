@@ -39,8 +39,8 @@ pub fn at_slow_walls(rng: &mut Rng) -> Vec<u8> {
 }
 
 fn speed(rng: &mut Rng) -> Vector {
-    let speeds = std::iter::repeat_with(|| Vector::new(WHOLE.speed(rng), WHOLE.speed(rng)));
-    speeds.into_iter().find(|speed| speed.dot(*speed) > 0).expect("a tip that moves")
+    let mut speeds = std::iter::repeat_with(|| Vector::new(WHOLE.speed(rng), WHOLE.speed(rng)));
+    speeds.find(|speed| speed.dot(*speed) > 0).expect("a tip that moves")
 }
 
 /// Speeds for `start_to_cross`.
