@@ -12,6 +12,7 @@ pub struct Fraction {
 
 impl Fraction {
     pub const ZERO: Fraction = Fraction { numerator: 0, denominator: 1 };
+    pub const HALF: Fraction = Fraction { numerator: 1, denominator: 2 };
     pub const ONE: Fraction = Fraction { numerator: 1, denominator: 1 };
 
     pub fn new(numerator: impl Into<i128>, denominator: impl Into<i128>) -> Self {
@@ -41,9 +42,19 @@ impl Fraction {
         self.numerator.div_euclid(self.denominator)
     }
 
-    /// This many 64ths, rounded down (SHEETS 5.4).
+    /// The nearest whole number; halfway between two, the even one.
+    pub fn nearest(self) -> i128 {
+        let below = self.floor();
+        match (self - Fraction::whole(below)).cmp(&Fraction::HALF) {
+            Ordering::Less => below,
+            Ordering::Equal => below + below.rem_euclid(2),
+            Ordering::Greater => below + 1,
+        }
+    }
+
+    /// This many 64ths, rounded (SHEETS 5.4).
     pub fn in_64ths(self) -> i128 {
-        (Fraction::whole(64) * self).floor()
+        (Fraction::whole(64) * self).nearest()
     }
 
     /// `self` / `other`, where `other` is not 0.

@@ -122,8 +122,9 @@ pub fn read_frames(input: &mut impl Read) -> io::Result<Vec<Frame>> {
 }
 
 /// The sheets, records and lookups that the proved program is asked. Sheets with start times come after the others, those
-/// for the shapefiles after both, then those for the sides and last those in which tips face, so that what stands before
-/// them does not depend on them. The made-up ones of the last are many, and are not listed in another order as well.
+/// for the shapefiles after both, then those for the sides, those in which tips face, and last those with halves, so that
+/// what stands before them does not depend on them. The made-up ones with facing tips are many, and are not listed in
+/// another order as well.
 pub fn all(seed: u64) -> Vec<Frame> {
     let at_once = [chosen::without_start_times(), made_up::without_start_times(seed)].concat();
     let late = [chosen::late::sheets(), made_up::late::all(seed)].concat();
@@ -131,7 +132,9 @@ pub fn all(seed: u64) -> Vec<Frame> {
     let sides = [chosen::sides::sheets(), made_up::sides::all(seed)].concat();
     let facing = chosen::facing::sheets();
     let sheets = [at_once, late, shapes, sides, facing].map(|sheets| made_up::with_other_orders(seed, sheets));
-    let sheets = [sheets.concat(), made_up::facing::all(seed)].concat();
+    let halves = [chosen::halves::sheets(), made_up::halves::all(seed)].concat();
+    let halves = made_up::with_other_orders(seed, halves);
+    let sheets = [sheets.concat(), made_up::facing::all(seed), halves].concat();
     let records = [chosen::handed_in::all(), made_up::handed_in::all(seed)].concat();
     let lookups = [chosen::names::all(), made_up::names::all(seed)].concat();
     let sheets = sheets.into_iter().map(Frame::Sheet);

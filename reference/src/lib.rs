@@ -18,3 +18,4 @@ pub mod rng;
 pub mod roll;
 pub mod shapefile;
 pub mod sheet;
+pub mod turn;

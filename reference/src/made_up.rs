@@ -2,6 +2,7 @@
 
 pub mod entering;
 pub mod facing;
+pub mod halves;
 pub mod handed_in;
 pub mod late;
 pub mod names;
@@ -228,7 +229,8 @@ pub fn with_other_orders(seed: u64, sheets: Vec<Vec<u8>>) -> Vec<Vec<u8>> {
 
 /// All made-up sheets of one seed.
 pub fn all(seed: u64) -> Vec<Vec<u8>> {
-    [without_start_times(seed), late::all(seed), sides::all(seed), shapes::all(seed), facing::all(seed)].concat()
+    let other = [late::all(seed), sides::all(seed), shapes::all(seed), facing::all(seed), halves::all(seed)];
+    [without_start_times(seed), other.concat()].concat()
 }
 
 /// Those that list no 03, unless damage makes one.

@@ -41,7 +41,7 @@ pub struct Row {
     pub id: u16,
     pub ending: Ending,
     pub time: Fraction,
-    /// The end point in 64ths of a unit, rounded down (SHEETS 5.4).
+    /// The end point in 64ths of a unit, rounded (SHEETS 5.4).
     pub x: u32,
     pub y: u32,
     pub side: Side,

@@ -80,7 +80,7 @@ fn sheet_i() {
 
 #[test]
 fn sheet_j() {
-    assert_eq!(printed("J"), ["1 3 1 2/3 42 42 2"]);
+    assert_eq!(printed("J"), ["1 3 1 2/3 43 43 2"]);
 }
 
 #[test]

@@ -1,6 +1,6 @@
 //! The sheets of examples/ as they are stored.
 
-use reference::chosen::{facing, late, sides};
+use reference::chosen::{facing, halves, late, sides};
 use reference::made_up;
 use reference::roll::{roll, Row, Side};
 use reference::sheet::read;
@@ -17,7 +17,7 @@ fn paths() -> Vec<PathBuf> {
     let entries = fs::read_dir(folder()).expect("examples/").map(|entry| entry.expect("an entry").path());
     let sheets: Vec<_> =
         entries.filter(|path| path.extension().is_some_and(|extension| extension == "sheet")).collect();
-    assert!(sheets.len() >= 20);
+    assert!(sheets.len() >= 22);
     sheets
 }
 
@@ -27,9 +27,8 @@ fn stored(path: &Path) -> Vec<u8> {
 
 #[test]
 fn sheets_are_the_chosen_ones() {
-    for (name, sheet) in
-        late::examples().into_iter().chain([("sides", sides::example()), ("facing", facing::example())])
-    {
+    let others = [("sides", sides::example()), ("facing", facing::example()), ("halves", halves::example())];
+    for (name, sheet) in late::examples().into_iter().chain(others) {
         assert_eq!(stored(&folder().join(name).with_extension("sheet")), sheet, "{name}");
     }
 }

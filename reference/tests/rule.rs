@@ -2,12 +2,14 @@
 //! times put in for the other tips' ends.
 
 mod causes;
+mod nearest;
 
 use causes::{end, ends, End, Ends};
+use nearest::is_nearest;
 use reference::chosen;
 use reference::fraction::Fraction;
 use reference::frames::{self, Frame};
-use reference::made_up::{self, facing, late, sides};
+use reference::made_up::{self, facing, halves, late, sides};
 use reference::rng::Rng;
 use reference::roll::{roll, roll_bytes, Ending, Row, Side};
 use reference::sheet::{commands, listing, read, Records};
@@ -26,9 +28,7 @@ fn check_row(records: &Records, row: &Row, ends: &Ends) {
     let End { time, point: (x, y), causes } = end(records, tip, ends);
     assert_eq!((row.time, (row.ending, row.side)), (time, causes[0]), "id {} of {records:?}", row.id);
     for (rounded, exact) in [(row.x, x), (row.y, y)] {
-        let exact = exact * Fraction::whole(64);
-        let rounded = Fraction::whole(rounded);
-        assert!(rounded <= exact && exact < rounded + Fraction::ONE);
+        assert!(is_nearest(rounded.into(), exact * Fraction::whole(64)), "{row} of {records:?}");
     }
     let (numerator, denominator) = row.time_in_lowest_terms();
     assert_eq!(Fraction::new(numerator, denominator), time);
@@ -116,6 +116,16 @@ fn rolls_of_sheets_with_facing_tips_are_the_rule_s() {
     let mut rng = Rng::new(16);
     for make in facing::MAKERS {
         for _ in 0..1500 {
+            check_roll(&read(&make(&mut rng)).expect("accepted"));
+        }
+    }
+}
+
+#[test]
+fn rolls_of_sheets_with_halves_are_the_rule_s() {
+    let mut rng = Rng::new(17);
+    for make in halves::MAKERS {
+        for _ in 0..1000 {
             check_roll(&read(&make(&mut rng)).expect("accepted"));
         }
     }

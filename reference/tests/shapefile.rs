@@ -100,8 +100,8 @@ fn null_in_the_middle() -> Vec<u8> {
 #[test]
 fn null_trace_in_the_middle() {
     let [traces, traces_index, ends, ends_index] = written(&null_in_the_middle());
-    // 0 to 130, 682/64 to 100: the corner is not in it.
-    let bounds = "0000000000000000 0000000000502540 0000000000406040 0000000000005940";
+    // 0 to 130, 683/64 to 100: the corner is not in it.
+    let bounds = "0000000000000000 0000000000582540 0000000000406040 0000000000005940";
     let expected = [
         &front("00000090"),
         POLY_LINES,
@@ -113,20 +113,20 @@ fn null_trace_in_the_middle() {
         "01000000 02000000 00000000",
         "0000000000005940 0000000000005940 0000000000406040 0000000000005940",
         "00000002 00000002 00000000",
-        // From (64, 32) to (0, 682/64): the least of the box are those of the end.
+        // From (64, 32) to (0, 683/64): the least of the box are those of the end.
         "00000003 00000028 03000000",
-        "0000000000000000 0000000000502540 0000000000005040 0000000000004040",
+        "0000000000000000 0000000000582540 0000000000005040 0000000000004040",
         "01000000 02000000 00000000",
-        "0000000000005040 0000000000004040 0000000000000000 0000000000502540",
+        "0000000000005040 0000000000004040 0000000000000000 0000000000582540",
     ];
     assert_eq!(traces, hexadecimal(&expected));
     let entries = "00000032 00000028 0000005e 00000002 00000064 00000028";
     assert_eq!(traces_index, hexadecimal(&[&front("0000003e"), POLY_LINES, bounds, ZEROS, entries]));
-    // 0 to 4095, 682/64 to 4095.
-    let bounds = "0000000000000000 0000000000502540 0000000000feaf40 0000000000feaf40";
+    // 0 to 4095, 683/64 to 4095.
+    let bounds = "0000000000000000 0000000000582540 0000000000feaf40 0000000000feaf40";
     let first = "00000001 0000000a 01000000 0000000000406040 0000000000005940";
     let second = "00000002 0000000a 01000000 0000000000feaf40 0000000000feaf40";
-    let third = "00000003 0000000a 01000000 0000000000000000 0000000000502540";
+    let third = "00000003 0000000a 01000000 0000000000000000 0000000000582540";
     assert_eq!(ends, hexadecimal(&[&front("0000005c"), POINTS, bounds, ZEROS, first, second, third]));
     let entries = "00000032 0000000a 00000040 0000000a 0000004e 0000000a";
     assert_eq!(ends_index, hexadecimal(&[&front("0000003e"), POINTS, bounds, ZEROS, entries]));
@@ -308,12 +308,19 @@ fn one_trace(commands: &[Command]) -> (bool, (u32, u32)) {
 }
 
 #[test]
-fn a_trace_shorter_than_a_64th() {
-    // The wall is 1/128 above (1001, 1000), 1/64 above (1002, 1000), 1/128 below (1127, 1001).
+fn a_trace_of_half_a_64th() {
+    // The wall is 1/128 above (1001, 1000), 1/64 above (1002, 1000), 1/128 below (1127, 1001), 1/64 below (1126, 1001).
     let slanted = wall(1, 1000, 1000, 1128, 1001);
     assert_eq!(one_trace(&[slanted, track(1, 1001, 1000, 0, 1)]), (true, (64064, 64000)));
     assert_eq!(one_trace(&[slanted, track(1, 1002, 1000, 0, 1)]), (false, (64128, 64001)));
-    assert_eq!(one_trace(&[slanted, track(1, 1127, 1001, 0, -1)]), (false, (72128, 64063)));
+    assert_eq!(one_trace(&[slanted, track(1, 1127, 1001, 0, -1)]), (true, (72128, 64064)));
+    assert_eq!(one_trace(&[slanted, track(1, 1126, 1001, 0, -1)]), (false, (72064, 64063)));
+    // 1/127 is more, 1/129 less.
+    let (steeper, flatter) = (wall(1, 1000, 1000, 1127, 1001), wall(1, 1000, 1000, 1129, 1001));
+    assert_eq!(one_trace(&[steeper, track(1, 1001, 1000, 0, 1)]), (false, (64064, 64001)));
+    assert_eq!(one_trace(&[steeper, track(1, 1126, 1001, 0, -1)]), (false, (72064, 64063)));
+    assert_eq!(one_trace(&[flatter, track(1, 1001, 1000, 0, 1)]), (true, (64064, 64000)));
+    assert_eq!(one_trace(&[flatter, track(1, 1128, 1001, 0, -1)]), (true, (72192, 64064)));
 }
 
 #[test]

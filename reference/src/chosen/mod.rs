@@ -1,11 +1,13 @@
 //! Chosen sheets: the starred ones, each line of the refusal table at its limits, endings that the
-//! rule has to tell apart, start times in all of these, shapes, sides, and tips that face.
+//! rule has to tell apart, start times in all of these, shapes, sides, tips that face, and end points halfway between
+//! two 64ths.
 
 pub mod document;
 pub mod endings;
 pub mod facing;
 pub mod form;
 pub mod geometry;
+pub mod halves;
 pub mod handed_in;
 pub mod late;
 pub mod limits;
@@ -44,10 +46,11 @@ pub fn walls(count: u16) -> Vec<Command> {
 
 /// Every chosen sheet in bytes.
 pub fn all() -> Vec<Vec<u8>> {
-    [without_start_times(), late::sheets(), shapes::sheets(), sides::sheets(), facing::sheets()].concat()
+    let other = [late::sheets(), shapes::sheets(), sides::sheets(), facing::sheets(), halves::sheets()];
+    [without_start_times(), other.concat()].concat()
 }
 
-/// Those that are about neither 03 nor shapes nor sides, nor above all about facing tips.
+/// Those that are about neither 03 nor shapes nor sides, nor above all about facing tips or halves.
 pub fn without_start_times() -> Vec<Vec<u8>> {
     let document = document::sheets().into_iter().map(|(_, sheet)| sheet);
     document

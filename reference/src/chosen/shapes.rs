@@ -67,7 +67,7 @@ fn opening_on_traces() -> Vec<Vec<Command>> {
 }
 
 /// A wall that rises by 1 over so many units. A tip starts so far along it, below it and going up, or at the other end
-/// above it and going down; the second trace is never null. And the same with x and y exchanged.
+/// above it and going down. And the same with x and y exchanged.
 fn beside_wall(length: u16, along: u16) -> [Vec<Command>; 4] {
     let (low, high) = (1000, 1000 + length);
     let (flat, steep) = (wall(1, low, low, high, low + 1), wall(1, low, low, low + 1, high));
@@ -79,8 +79,7 @@ fn beside_wall(length: u16, along: u16) -> [Vec<Command>; 4] {
     ]
 }
 
-/// Traces about as long as a 64th: below it the rounded end is the start again, or a 64th beside it where the tip moves
-/// to the falling side.
+/// Traces about as long as a 64th or half of one: up to a half, the rounded end is the start again.
 fn about_a_64th() -> Vec<Vec<Command>> {
     let lengths = [(63, 1), (64, 1), (65, 1), (127, 2), (128, 2), (129, 2), (128, 1), (3000, 46), (3000, 47)];
     let mut sheets: Vec<_> = lengths.into_iter().flat_map(|(length, along)| beside_wall(length, along)).collect();
@@ -95,7 +94,7 @@ fn about_a_64th() -> Vec<Vec<Command>> {
     sheets
 }
 
-/// Late tips that start close below and above an old trace: the first two end after less than a 64th.
+/// Late tips that start close below and above an old trace: the first two move little more than half a 64th each way.
 fn beside_traces() -> Vec<Vec<Command>> {
     let old = track(2, 1000, 1000, 63, -62);
     let ways = [(63, 63), (62, 63), (1, 63), (63, 1), (0, 1), (1, 0)];

@@ -1,6 +1,6 @@
 //! Made-up records handed in: those of made-up sheets, sometimes with other counts.
 
-use super::{accepted, doubtful, facing, late, nearly_accepted, provoked, shapes, sides};
+use super::{accepted, doubtful, facing, halves, late, nearly_accepted, provoked, shapes, sides};
 use crate::handed_in::HandedIn;
 use crate::rng::Rng;
 use crate::sheet::{whole_commands, Records};
@@ -47,5 +47,6 @@ pub fn all(seed: u64) -> Vec<HandedIn> {
     all.extend((0..100).map(|_| made_by(&mut rng, &shapes::MAKERS)));
     all.extend((0..100).map(|_| made_by(&mut rng, &sides::MAKERS)));
     all.extend((0..200).map(|_| made_by(&mut rng, &facing::MAKERS)));
+    all.extend((0..100).map(|_| made_by(&mut rng, &halves::MAKERS)));
     all
 }
