@@ -10,12 +10,13 @@ pub fn nearest(n: u64, den: u64) -> u64
     ensures { λ r. ⌜ Nearest (nat n) den r ⌝ }
 {
     let below = n / den;
+    let above = below + 1;
     let twice = 2 * (n % den);
     if twice < den {
         return below;
     }
     if den < twice {
-        return below + 1;
+        return above;
     }
     below + below % 2
 }
