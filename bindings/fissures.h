@@ -45,7 +45,7 @@ enum fissure_refusal {
 
 /* Bytes of a row, and where its fields begin: id of 2 bytes, kind 1, partner 2, the time's numerator 8 and denominator 8, x and y in 64ths
  * 4 each, side 1; all little-endian (docs/SHEETS.md, 5.6). The time is one of the whole sheet, also where the track starts later than at
- * 0. */
+ * 0. x and y are the nearest 64ths, at an exact half the even ones, and at most 262080, which is 4095 units (5.4). */
 #define FISSURE_ROW 30
 #define FISSURE_ROW_ID 0
 #define FISSURE_ROW_KIND 2

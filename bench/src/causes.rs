@@ -221,13 +221,23 @@ fn gcd(a: i64, b: i64) -> i64 {
     }
 }
 
+/// n / den to the nearest, at an exact half to the even one.
+fn nearest(n: i64, den: i64) -> i64 {
+    let (below, twice) = (n / den, 2 * (n % den));
+    match twice.cmp(&den) {
+        Ordering::Less => below,
+        Ordering::Equal => below + below % 2,
+        Ordering::Greater => below + 1,
+    }
+}
+
 /// The row of a tip whose ending has its time in lowest terms.
 pub fn write_row(out: &mut [u8], a: &Track, c: &Cause) {
     let Time { num, den } = c.at;
     let age = num - i64::from(a.start_time) * den;
     let place = |x: u16, v: i8| {
         let p = i64::from(x) * den + i64::from(v) * age;
-        (64 * p / den) as u32
+        nearest(64 * p, den) as u32
     };
     let kind = match c.class {
         0 if c.at.order(c.reached).is_le() => 2,

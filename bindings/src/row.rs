@@ -73,7 +73,7 @@ impl<'a> Row<'a> {
         (u64::from_le_bytes(self.field(Row::NUM)), u64::from_le_bytes(self.field(Row::DEN)))
     }
 
-    /// The end point in 64ths of a unit, rounded down.
+    /// The end point in 64ths of a unit: the nearest, at an exact half the even one (SHEETS 5.4). At most 262,080.
     pub fn x(self) -> u32 {
         u32::from_le_bytes(self.field(Row::X))
     }

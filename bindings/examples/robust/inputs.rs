@@ -1,7 +1,7 @@
 //! The made-up inputs: mostly small sheets on few lines, where equal times, meetings, wall ends and borders are common.
 
 use reference::made_up::entering::{entering, entering_late};
-use reference::made_up::{self, facing, late, shapes, sides, BORDERS, COARSE, GROUNDS, TINY};
+use reference::made_up::{self, facing, halves, late, shapes, sides, BORDERS, COARSE, GROUNDS, TINY};
 use reference::rng::Rng;
 use reference::sheet::{listing, Command, Records, Track, Wall};
 
@@ -14,9 +14,9 @@ pub fn undamaged(rng: &mut Rng) -> Vec<u8> {
 }
 
 /// Tips that open later: on traces, on one line with others, together with them, at the edge; traces without length; causes of
-/// different sides at one time; and tips that face each other.
+/// different sides at one time; end points halfway between two 64ths; and tips that face each other.
 fn late_or_facing(rng: &mut Rng) -> Vec<u8> {
-    match rng.below(25) {
+    match rng.below(28) {
         0 if rng.one_in(50) => late::large(rng),
         0..=9 => rng.pick(&late::MAKERS)(rng),
         10 | 11 => rng.pick(&sides::MAKERS)(rng),
@@ -25,6 +25,7 @@ fn late_or_facing(rng: &mut Rng) -> Vec<u8> {
         17 => late::nearly_accepted(rng),
         18 => late::doubtful(rng),
         19 => late::provoked(rng),
+        20..=22 => rng.pick(&halves::MAKERS)(rng),
         _ => rng.pick(&facing::MAKERS)(rng),
     }
 }

@@ -5,9 +5,9 @@ use std::path::PathBuf;
 use std::process::{Command, Stdio};
 
 /// The examples that are accepted.
-pub const NAMES: [&str; 20] = [
+pub const NAMES: [&str; 21] = [
     "A", "B", "C", "D", "E", "F", "G", "H1", "H2", "I1", "I2", "J", "K", "corner", "cell", "opening", "behind", "late",
-    "sides", "facing",
+    "sides", "facing", "halves",
 ];
 
 /// The path of a file in the repository.
