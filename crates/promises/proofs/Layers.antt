@@ -1,15 +1,22 @@
 -- `layers`: what specs/Layers.antt says holds of every accepted sheet; of one in bytes and of records handed in by `of-bytes` and `of-records` in Sheets.antt.
-use mathlib.Core.Path.{_≡_, refl, ap, _∙_}
+use mathlib.Core.Path.{_≡_, refl, sym, ap, subst, _∙_}
+use mathlib.Core.Logic.{_↔_}
 use mathlib.Core.List.{List, [], _∷_, _++_, List·Memᴰ·head, List·Memᴰ·tail}
 use Prim.Native.Nat.{ℕ, _+_, _*_, _≤_, _<_}
 use native.Mathlib.Omega.{arith}
 use lib.ListN.{length, drop, length-map}
+use Rattle.fraction.specs.Whole.{Whole, nat, _⊑_, _⊕_, _·_}
+use Rattle.rounding.specs.Nearest.{Nearest}
+use Rattle.rounding.proofs.OneNearest.{nearest-once}
 use Rattle.sheet.specs.declared.Command.{Command}
+use Rattle.sheet.specs.declared.Track.{Track}
 use Rattle.sheet.specs.Accepted.{Accepted}
 use Rattle.sheet.specs.Listing.{Listing, listing, _∈_, tracksOf}
 use Rattle.sheet.specs.Returned.{Returned, accepted, gives, refused}
 use Rattle.sheet.proofs.Lent as ending
 use Rattle.rule.specs.declared.Row.{Row}
+use Rattle.rule.specs.Motion.{X, Y}
+use Rattle.rule.specs.Rows.{time}
 use Rattle.rule.specs.Selection.{rollOf}
 use Rattle.rule.proofs.Existence.{roll-of, roll-length}
 use Rattle.grid_run.proofs.Given.{given-accepted, given-records}
@@ -26,7 +33,7 @@ use Rattle.passages.specs.Passages.{trackWith, passageOf, passagesOf}
 use Rattle.passages.proofs.OwnTrack.{own-track, ways-order, ways-narrow}
 use Rattle.shape_files.specs.Exported.{fileReturns}
 use Rattle.shape_layers.specs.Layers.{layerFile}
-use Rattle.promises.specs.Layers.{Export, export, ShapeOf, its-end, its-trace, ShapesOf, none, more, longest, Layers}
+use Rattle.promises.specs.Layers.{Export, export, ShapeOf, its-end, its-trace, ShapesOf, none, more, HalfA64th, Still, longest, Layers}
 
 -- ---- how long the files are
 
@@ -49,6 +56,25 @@ module _ {l : List Command} where
     index-is : {k at : ℕ} {rows : List Row} {shapes : List Figure} → ShapesOf l layer rows shapes → Records main index k at shapes → length index ≡ 100 + 8 * (k + length rows)
     index-is none (ends e i) = omega arith
     index-is (more h t) (next r u) = omega (arith, index-is t u)
+
+-- ---- null shapes
+
+-- a start is at an even number of 64ths, so an exact half from it is rounded to it
+still : (P : Whole) {d q : ℕ} (x : ℕ) → 0 < d → Nearest (P · 64) d q → (64 * x ≡ q) ↔ HalfA64th P d x
+still P {d} {q} x p f = (there, back)
+  where
+    there : 64 * x ≡ q → HalfA64th P d x
+    there e = let g = subst (Nearest (P · 64) d) (sym e) f in record { low = record { le = omega (arith, g .low .le) }; high = record { le = omega (arith, g .high .le) } }
+
+    back : HalfA64th P d x → 64 * x ≡ q
+    back h =
+        nearest-once p
+        (record {
+          low = record { le = omega (arith, h .low .le) };
+          high = record { le = omega (arith, h .high .le) };
+          even = λ k. record { half = 32 * x; is = omega arith };
+        })
+        f
 
 -- ---- of an accepted sheet
 
@@ -74,6 +100,14 @@ module _ (l : List Command) (acc : Accepted (listing l)) where
 
   shapes-of : (layer : Layer) → ShapesOf l layer (rollOf S) (figures layer ways)
   shapes-of layer = each layer (rollOf S) (λ r m. m)
+
+  null-shape : (r : Row) (a : Track) → r ∈ rollOf S → a ∈ tracksOf l → a .id ≡ r .id → ((64 * a .x ≡ r .x) × (64 * a .y ≡ r .y)) ↔ Still r a
+  null-shape r a m i e =
+      let k = roll-of S acc .meets .by-rule r a m i (sym e) in
+      let p = roll-of S acc .meets .is-set .den-pos r m in
+      let x = still (X a (time r)) (a .x) p (k .rounded-x) in
+      let y = still (Y a (time r)) (a .y) p (k .rounded-y) in
+      (λ h. (x .0 (h .0), y .0 (h .1)), λ h. (x .1 (h .0), y .1 (h .1)))
 
   read : (layer : Layer) → Layered (typeOf layer) (figures layer ways) (layerFile layer Main S) (layerFile layer Index S)
   unfolding layerFile passagesOf
@@ -116,6 +150,7 @@ layers l acc =
       is-roll = roll-of (listing l) acc;
       shapes = λ layer. figures layer (ways l acc);
       each = shapes-of l acc;
+      null-shape = null-shape l acc;
       file = λ layer part. layerFile layer part (listing l);
       read = read l acc;
       written = λ {layer} {part} c. written l acc layer part c;

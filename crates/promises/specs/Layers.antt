@@ -2,8 +2,10 @@
 -- a byte (SHEETS 12). Proved of every accepted sheet as `layers` in proofs/Layers.antt.
 use mathlib.Core.Path.{_≡_}
 use mathlib.Core.List.{List, [], _∷_, _++_}
-use Prim.Native.Nat.{ℕ, _*_, _≤_, _<_}
+use mathlib.Core.Logic.{_↔_}
+use Prim.Native.Nat.{ℕ, _+_, _*_, _≤_, _<_}
 use lib.ListN.{length, drop}
+use Rattle.fraction.specs.Whole.{Whole, nat, _⊑_, _⊕_, _·_}
 use Rattle.sheet.specs.declared.Answer.{Answer}
 use Rattle.sheet.specs.declared.Command.{Command}
 use Rattle.sheet.specs.declared.Track.{Track}
@@ -11,6 +13,8 @@ use Rattle.sheet.specs.Answer.{answered}
 use Rattle.sheet.specs.Listing.{Listing, listing, _∈_, tracksOf}
 use Rattle.sheet.specs.Returned.{Returned, gives, refused}
 use Rattle.rule.specs.declared.Row.{Row}
+use Rattle.rule.specs.Motion.{X, Y}
+use Rattle.rule.specs.Rows.{time}
 use Rattle.rule.specs.Roll.{RollOf}
 use Rattle.grid_run.specs.Demand.{Given}
 use Rattle.shapefile.specs.declared.Layer.{Layer}
@@ -39,6 +43,15 @@ pub data ShapesOf (l : List Command) (layer : Layer) : List Row → List Figure 
   none : ShapesOf l layer [] []
   more : {r : Row} {f : Figure} {rows : List Row} {shapes : List Figure} → ShapeOf l r layer f → ShapesOf l layer rows shapes → ShapesOf l layer (r ∷ rows) (f ∷ shapes)
 
+-- P / d is at most half a 64th from x units: |64 · P / d − 64 · x| ≤ 1/2 (SHEETS 12.5)
+pub record HalfA64th (P : Whole) (d x : ℕ) : Type 0 where
+  pub low : nat (128 * x * d) ⊑ P · 128 ⊕ nat d
+  pub high : P · 128 ⊑ nat ((128 * x + 1) * d)
+
+-- the tip of a row ends no further from its start, in x and in y
+abbrev pub Still : Row → Track → Type 0
+Still r a = HalfA64th (X a (time r)) (r .at .den) (a .x) × HalfA64th (Y a (time r)) (r .at .den) (a .y)
+
 -- how long the files are at most, in bytes: those of 256 rows
 abbrev pub longest : Layer → Part → ℕ
 longest Traces Main = 22628
@@ -51,6 +64,8 @@ pub record Layers (l : List Command) : Type 0 where
   pub is-roll : RollOf (listing l) roll
   pub shapes : Layer → List Figure
   pub each : (layer : Layer) → ShapesOf l layer roll (shapes layer)
+  -- a row's trace is a null shape exactly where its tip has hardly moved (SHEETS 12.5)
+  pub null-shape : (r : Row) (a : Track) → r ∈ roll → a ∈ tracksOf l → a .id ≡ r .id → ((64 * a .x ≡ r .x) × (64 * a .y ≡ r .y)) ↔ Still r a
   -- the two files of a layer
   pub file : Layer → Part → List ℕ
   -- what a reader finds in them: the lengths and offsets are true (SHEETS 12.2, 12.7), the boxes least and greatest (SHEETS 12.6), the coordinates exactly their 64ths (SHEETS 12.8)

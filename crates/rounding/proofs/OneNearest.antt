@@ -1,9 +1,9 @@
--- Every n / d that is not negative has exactly one nearest whole number (`one-nearest`), which is computed by `nearestOf` (`nearest-of`); rounding keeps the order (`nearest-order`).
+-- Every n / d that is not negative has exactly one nearest whole number (`one-nearest`), which is computed by `nearestOf` (`nearest-of`); rounding keeps the order (`keeps-order`; over one denominator `nearest-order`).
 use mathlib.Core.Path.{_≡_, refl, sym, subst}
 use mathlib.Core.Bool.{Bool, true, false, not, cond}
 use Prim.Native.Nat.{ℕ, suc, _+_, _*_, _-_, _/_, _%_, _≤_, _<_}
 use native.Mathlib.Decide.{decLe, decLt}
-use native.Mathlib.Nat.{mul-le-mul-right, le-of-mul-le-mul-right, mod-lt, mod-add-div}
+use native.Mathlib.Nat.{mul-comm, mul-pos, mul-le-mul-right, le-of-mul-le-mul-right, eq-of-mul-eq-mul-right, mod-lt, mod-add-div}
 use native.Mathlib.Omega.{arith}
 use lib.Dec.{T, ltb, ltb→lt, nltb→le}
 use Rattle.fraction.specs.Whole.{Whole, nat, _≈_, _⊑_, _·_}
@@ -100,6 +100,23 @@ nearest-same {n} {m} {d} {q} e f =
       high = record { le = omega (arith, e .eq, f .high .le) };
       even = λ h. f .even (record { whole = h .whole; is = record { eq = omega (arith, e .eq, h .is .eq) } });
     }
+
+-- ---- whatever the denominators
+
+-- multiplied through, a fraction keeps its nearest
+nearest-scaled : {n : Whole} {d q : ℕ} (k : ℕ) → 0 < k → Nearest n d q → Nearest (n · k) (d * k) q
+nearest-scaled {n} {d} {q} k h f =
+    record {
+      low = record { le = omega (arith, mul-le-mul-right k (f .low .le)) };
+      high = record { le = omega (arith, mul-le-mul-right k (f .high .le)) };
+      even = λ v. f .even (record { whole = v .whole; is = record { eq = eq-of-mul-eq-mul-right k h _ _ (omega (arith, v .is .eq)) } });
+    }
+
+-- n / d is no more than m / e, and so are the nearest
+pub keeps-order : {n m : Whole} {d e q p : ℕ} → 0 < d → 0 < e → n · e ⊑ m · d → Nearest n d q → Nearest m e p → q ≤ p
+keeps-order {n} {m} {d} {e} {q} {p} h k o f g =
+    let g′ : Nearest (m · d) (d * e) p = subst (λ (c : ℕ). Nearest (m · d) c p) (mul-comm e d) (nearest-scaled d h g) in
+    nearest-order (mul-pos h k) o (nearest-scaled e k f) g′
 
 -- ---- exactly one
 
