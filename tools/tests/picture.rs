@@ -241,7 +241,7 @@ fn ids_stand_apart() {
         ids.len()
     });
     // There is no room for half of D's ids with two digits, nor for F's wall between trace 1 and the edge.
-    assert_eq!(found, [2, 2, 2, 36, 4, 2, 2, 2, 2, 1, 1, 2, 0, 4, 6, 6, 7, 4, 9, 12]);
+    assert_eq!(found, [2, 2, 2, 36, 4, 2, 2, 2, 2, 1, 1, 2, 0, 4, 6, 6, 7, 4, 9, 12, 5]);
 }
 
 #[test]
