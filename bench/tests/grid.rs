@@ -1,7 +1,7 @@
 //! The grid run in Rust compared with the reference implementation: rows, and cells entered, at the six figures.
 
 use reference::cells::{count, FIGURES};
-use reference::made_up::{facing, late, sides, GROUNDS};
+use reference::made_up::{facing, halves, late, sides, GROUNDS};
 use reference::rng::Rng;
 use reference::roll::{roll, roll_bytes};
 use reference::sheet::{commands, listing, read, Records};
@@ -45,6 +45,16 @@ fn sheets_with_facing_tips() {
     let mut rng = Rng::new(9);
     for make in facing::MAKERS {
         for _ in 0..2000 {
+            check(&read(&make(&mut rng)).expect("accepted"));
+        }
+    }
+}
+
+#[test]
+fn sheets_with_halves() {
+    let mut rng = Rng::new(10);
+    for make in halves::MAKERS {
+        for _ in 0..500 {
             check(&read(&make(&mut rng)).expect("accepted"));
         }
     }

@@ -15,6 +15,9 @@ pub const TOUCHED: &str = "#fbeeb8";
 pub const LISTED: &str = "#f5d76e";
 pub const RING: &str = "#a00";
 pub const GRID: &str = "#aaa";
+/// The end points in the rows, and the lines at whole 64ths.
+pub const ROUNDED: &str = "#a00";
+pub const WHOLE: &str = "#ccc";
 
 /// The head of an arrow, of the width of a wall's line, and the attribute that puts it at the end of a line.
 pub const ARROWHEAD: &str =
@@ -54,6 +57,13 @@ impl Legend {
             lines.push(entry(&mark, words));
         }
         Legend(lines)
+    }
+
+    /// With the marks of a close view.
+    pub fn with_64ths(mut self) -> Legend {
+        self.0.push(entry(&square(), "end point in the row, in 64ths"));
+        self.0.push(entry(&line(WHOLE, 1), "whole 64ths"));
+        self
     }
 
     /// In pixels.
@@ -103,6 +113,10 @@ fn area(fill: &str, border: &str) -> String {
 
 fn ring() -> String {
     format!("<circle cx=\"17\" cy=\"0\" r=\"6\" fill=\"none\" stroke=\"{RING}\" stroke-width=\"1.5\"/>")
+}
+
+fn square() -> String {
+    format!("<path d=\"M11 -6h12v12h-12z\" fill=\"none\" stroke=\"{ROUNDED}\" stroke-width=\"1.5\"/>")
 }
 
 fn line(colour: &str, width: u8) -> String {

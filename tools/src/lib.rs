@@ -11,6 +11,7 @@ pub mod listing;
 pub mod picture;
 pub mod roll;
 mod room;
+mod rounded;
 pub mod sheet;
 mod sides;
 pub mod trace;

@@ -6,9 +6,10 @@ use crate::ids;
 use crate::legend::{self, Legend};
 use crate::listed::Listed;
 use crate::room::Room;
+use crate::rounded;
 use crate::sides;
 use crate::trace::Trace;
-use crate::view::{in_64ths, View};
+use crate::view::{in_64ths, place, Place, View};
 use reference::cells::{side, Cell};
 use reference::fraction::Fraction;
 use reference::roll::{Ending, Side};
@@ -42,27 +43,19 @@ pub fn draw(walls: &[Wall], traces: &[Trace], options: Options) -> String {
     let listed = options.grid.zip(options.cell).map(|(figure, cell)| Listed::new(traces, figure, cell));
     let corners = corners(shaded.iter().chain(&options.cell), options.grid);
     let view = options.view.unwrap_or_else(|| View::around(&points(walls, traces, &corners)));
-    let (width, height) = view.size();
-    let (wide, high) = (width.pixels(), height.pixels());
     let lines = listed.as_ref().map_or_else(Vec::new, Listed::lines);
     let sides = traces.iter().any(|trace| trace.row.side != Side::NoSide);
     let legend = Legend::new(options.grid, traces.iter().any(Trace::is_late), sides, &lines);
-    let total = (width + Fraction::whole(legend::WIDTH)).pixels();
-    let total_high = height.max(Fraction::whole(legend.height() as i128)).pixels();
-    let mut svg = format!(
-        "<svg xmlns=\"http://www.w3.org/2000/svg\" width=\"{total}\" height=\"{total_high}\" \
-         font-family=\"sans-serif\" font-size=\"11\">\n\
-         <rect width=\"{total}\" height=\"{total_high}\" fill=\"#fff\"/>\n\
-         <rect width=\"{wide}\" height=\"{high}\" fill=\"{}\"/>\n\
-         <svg width=\"{wide}\" height=\"{high}\" viewBox=\"{}\">\n<g transform=\"scale(1 -1)\">\n",
-        legend::OUTSIDE,
-        view.view_box()
-    );
+    let legend = if view.is_close() { legend.with_64ths() } else { legend };
+    let (wide, high) = (view.size().0.pixels(), view.size().1.pixels());
+    let mut svg = head(&view, &legend);
     svg += &sheet(&view, "fill=\"#fff\"");
     svg += &grid(&shaded, listed.as_ref(), options.grid, &view);
+    svg += &close(&view, || rounded::lines(&view));
     svg += &edge(&view);
     svg += &wall_lines(walls, &view);
     svg += &trace_lines(traces, &view);
+    svg += &close(&view, || rounded::marks(traces, &view));
     svg += &marks(traces, &view);
     svg += &listed.as_ref().map_or_else(String::new, |listed| listed.rings(&view));
     svg += "</g>\n</svg>\n";
@@ -70,9 +63,36 @@ pub fn draw(walls: &[Wall], traces: &[Trace], options: Options) -> String {
     let mut room = Room::new(walls, traces, &view);
     svg += &ids::draw(walls, traces, &mut room);
     svg += &sides::draw(traces, &mut room);
+    svg += &close(&view, || rounded::numbers(&mut room));
     svg += &notes(&options.notes, &view);
     svg += &legend.draw(&wide);
     svg + "</svg>\n"
+}
+
+/// The beginning of the picture, with what is around its drawing.
+fn head(view: &View, legend: &Legend) -> String {
+    let (width, height) = view.size();
+    let (wide, high) = (width.pixels(), height.pixels());
+    let total = (width + Fraction::whole(legend::WIDTH)).pixels();
+    let total_high = height.max(Fraction::whole(legend.height() as i128)).pixels();
+    format!(
+        "<svg xmlns=\"http://www.w3.org/2000/svg\" width=\"{total}\" height=\"{total_high}\" \
+         font-family=\"sans-serif\" font-size=\"11\">\n\
+         <rect width=\"{total}\" height=\"{total_high}\" fill=\"#fff\"/>\n\
+         <rect width=\"{wide}\" height=\"{high}\" fill=\"{}\"/>\n\
+         <svg width=\"{wide}\" height=\"{high}\" viewBox=\"{}\">\n<g transform=\"scale(1 -1)\">\n",
+        legend::OUTSIDE,
+        view.view_box()
+    )
+}
+
+/// What only a close view has.
+fn close(view: &View, draw: impl FnOnce() -> String) -> String {
+    if view.is_close() {
+        draw()
+    } else {
+        String::new()
+    }
 }
 
 /// Lower left and upper right corners of the cells.
@@ -137,7 +157,7 @@ fn wall_lines(walls: &[Wall], view: &View) -> String {
     let mut text = legend::ARROWHEAD.to_string();
     text += &format!("<g stroke=\"#000\" stroke-width=\"{}\" {}>\n", view.tenths(30), legend::AT_B);
     for Wall { ax, ay, bx, by, .. } in walls {
-        text += &format!("<line x1=\"{ax}\" y1=\"{ay}\" x2=\"{bx}\" y2=\"{by}\"/>\n");
+        text += &line(place(*ax, *ay), place(*bx, *by), view);
     }
     text + "</g>\n"
 }
@@ -146,27 +166,27 @@ fn wall_lines(walls: &[Wall], view: &View) -> String {
 fn trace_lines(traces: &[Trace], view: &View) -> String {
     let mut text = format!("<g stroke=\"#555\" stroke-width=\"{}\">\n", view.tenths(14));
     for trace in traces {
-        let (x, y) = trace.end();
-        text += &format!(
-            "<line x1=\"{}\" y1=\"{}\" x2=\"{}\" y2=\"{}\"/>\n",
-            trace.track.x,
-            trace.track.y,
-            x.units(),
-            y.units()
-        );
+        text += &line(trace.start(), trace.end(), view);
     }
     text + "</g>\n"
+}
+
+fn line(from: Place, to: Place, view: &View) -> String {
+    let Some(((x1, y1), (x2, y2))) = view.near(from, to) else { return String::new() };
+    let [x1, y1, x2, y2] = [x1, y1, x2, y2].map(Fraction::units);
+    format!("<line x1=\"{x1}\" y1=\"{y1}\" x2=\"{x2}\" y2=\"{y2}\"/>\n")
 }
 
 /// The starts, late ones hollow, and the end points coloured by kind.
 fn marks(traces: &[Trace], view: &View) -> String {
     let mut text = "<g fill=\"#555\">\n".to_string();
-    for Trace { track, .. } in traces.iter().filter(|trace| !trace.is_late()) {
+    let near = |trace: &&Trace| !trace.is_late() && view.is_near(trace.start());
+    for Trace { track, .. } in traces.iter().filter(near) {
         text += &format!("<circle cx=\"{}\" cy=\"{}\" r=\"{}\"/>\n", track.x, track.y, view.tenths(20));
     }
     text += "</g>\n";
     text += &late_starts(traces, view);
-    for (index, trace) in traces.iter().enumerate() {
+    for (index, trace) in traces.iter().enumerate().filter(|(_, trace)| view.is_near(trace.end())) {
         let (x, y) = trace.end();
         text += &format!(
             "<circle cx=\"{}\" cy=\"{}\" r=\"{}\" fill=\"{}\"{}><title>{}</title></circle>\n",
@@ -182,7 +202,7 @@ fn marks(traces: &[Trace], view: &View) -> String {
 }
 
 /// How often the kind changes among the endings at this point.
-fn changes(traces: &[Trace], point: (Fraction, Fraction)) -> usize {
+fn changes(traces: &[Trace], point: Place) -> usize {
     let there = traces.iter().filter(|trace| trace.end() == point);
     let kinds: Vec<u8> = there.map(|trace| trace.row.ending.kind()).collect();
     kinds.windows(2).filter(|pair| pair[0] != pair[1]).count()
@@ -190,7 +210,7 @@ fn changes(traces: &[Trace], point: (Fraction, Fraction)) -> usize {
 
 /// The radius of the first of these endings' marks at this point, in tenths of a pixel: larger where others of another kind follow, so that
 /// it is seen as a ring around theirs.
-fn radius(traces: &[Trace], point: (Fraction, Fraction)) -> i64 {
+fn radius(traces: &[Trace], point: Place) -> i64 {
     40 + 25 * changes(traces, point).min(3) as i64
 }
 
@@ -207,18 +227,19 @@ fn border(before: &[Trace], trace: &Trace, view: &View) -> String {
 /// A hollow dot at each late start, wide enough for the marks of tips that end there; a pointer resting on it shows
 /// the time.
 fn late_starts(traces: &[Trace], view: &View) -> String {
-    let late: Vec<_> = traces.iter().filter(|trace| trace.is_late()).collect();
+    let near = |trace: &&Trace| trace.is_late() && view.is_near(trace.start());
+    let late: Vec<_> = traces.iter().filter(near).collect();
     if late.is_empty() {
         return String::new();
     }
     let mut text = format!("<g fill=\"#fff\" stroke=\"#555\" stroke-width=\"{}\">\n", view.tenths(12));
-    for Trace { track, .. } in late {
-        let start = (Fraction::whole(track.x), Fraction::whole(track.y));
+    for trace in late {
+        let track = trace.track;
         text += &format!(
             "<circle cx=\"{}\" cy=\"{}\" r=\"{}\"><title>track {} starts at {}</title></circle>\n",
             track.x,
             track.y,
-            view.tenths(10 + radius(traces, start)),
+            view.tenths(10 + radius(traces, trace.start())),
             track.id,
             track.start_time
         );

@@ -1,8 +1,9 @@
 //! The room that labels have in a picture: clear of lines, marks and one another. In hundredths of a pixel.
 
 use crate::decimals::Decimals;
+use crate::rounded;
 use crate::trace::Trace;
-use crate::view::{in_64ths, View};
+use crate::view::{in_units, place, Place, View};
 use reference::fraction::Fraction;
 use reference::sheet::Wall;
 
@@ -56,31 +57,50 @@ impl<'a> Room<'a> {
     pub fn new(walls: &[Wall], traces: &[Trace], view: &'a View) -> Room<'a> {
         let mut room = Room { view, lines: Vec::new(), areas: Vec::new() };
         for wall in walls {
-            room.line(in_64ths(wall.ax, wall.ay), in_64ths(wall.bx, wall.by));
+            room.line(place(wall.ax, wall.ay), place(wall.bx, wall.by));
         }
         for trace in traces {
-            let (start, end) = (in_64ths(trace.track.x, trace.track.y), (trace.row.x.into(), trace.row.y.into()));
+            let (start, end) = (trace.start(), room.end(trace));
             room.line(start, end);
-            room.areas.push(Area::around(room.pixels(end), MARK, MARK));
+            room.areas.push(Area::around(room.pixels_of(end), MARK, MARK));
             let mark = if trace.is_late() { MARK } else { 0 };
-            room.areas.push(Area::around(room.pixels(start), mark, mark));
+            room.areas.push(Area::around(room.pixels_of(start), mark, mark));
+            if view.is_close() {
+                let rounded = room.pixels((trace.row.x.into(), trace.row.y.into()));
+                room.areas.push(Area::around(rounded, rounded::MARK, rounded::MARK));
+            }
         }
         let [left, bottom, right, top] = view.sheet();
         for (a, b) in [((left, bottom), (right, top)), ((right, top), (left, bottom))] {
-            room.line(a, (a.0, b.1));
-            room.line(a, (b.0, a.1));
+            room.line(in_units(a.0, a.1), in_units(a.0, b.1));
+            room.line(in_units(a.0, a.1), in_units(b.0, a.1));
         }
         room
     }
 
+    /// Where labels take a trace to end: at the row's end point, but where 64ths are told apart at the exact one.
+    pub fn end(&self, trace: &Trace) -> Place {
+        if self.view.is_close() {
+            trace.end()
+        } else {
+            in_units(trace.row.x, trace.row.y)
+        }
+    }
+
     /// Where a point given in 64ths is.
     pub fn pixels(&self, (x, y): (i64, i64)) -> Point {
-        let (across, down) = self.view.pixels(x, y);
+        self.pixels_of(in_units(x, y))
+    }
+
+    /// Where an exact point is.
+    pub fn pixels_of(&self, place: Place) -> Point {
+        let (across, down) = self.view.pixels_of(place);
         (across.in_hundredths(), down.in_hundredths())
     }
 
-    fn line(&mut self, from: (i64, i64), to: (i64, i64)) {
-        self.lines.push((self.pixels(from), self.pixels(to)));
+    fn line(&mut self, from: Place, to: Place) {
+        let near = self.view.near(from, to);
+        self.lines.extend(near.map(|(from, to)| (self.pixels_of(from), self.pixels_of(to))));
     }
 
     fn is_clear(&self, area: &Area) -> bool {

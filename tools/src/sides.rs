@@ -3,7 +3,6 @@
 
 use crate::room::{text, Area, Point, Room};
 use crate::trace::Trace;
-use crate::view::in_64ths;
 use reference::roll::Side;
 
 pub const COLOUR: &str = "#555";
@@ -31,8 +30,7 @@ pub fn draw(traces: &[Trace], room: &mut Room) -> String {
 /// On either hand of a trace that is long enough.
 fn beside_end(trace: &Trace, room: &mut Room) -> Option<String> {
     let letter = letter(trace.row.side)?;
-    let start = room.pixels(in_64ths(trace.track.x, trace.track.y));
-    let end = room.pixels((trace.row.x.into(), trace.row.y.into()));
+    let (start, end) = (room.pixels_of(trace.start()), room.pixels_of(room.end(trace)));
     let way = (end.0 - start.0, end.1 - start.1);
     let length = way.0.abs().max(way.1.abs());
     if length < 2 * BACK {

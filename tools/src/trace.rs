@@ -1,6 +1,7 @@
 //! A trace: a track of the sheet with its row of the roll.
 
 use crate::roll::Roll;
+use crate::view::{place, Place};
 use reference::cells::{cells_of, Cell};
 use reference::fraction::Fraction;
 use reference::roll::Row;
@@ -13,8 +14,12 @@ pub struct Trace {
 }
 
 impl Trace {
+    pub fn start(&self) -> Place {
+        place(self.track.x, self.track.y)
+    }
+
     /// The exact end; the row's end point is rounded.
-    pub fn end(&self) -> (Fraction, Fraction) {
+    pub fn end(&self) -> Place {
         self.track.at(self.row.time)
     }
 

@@ -12,6 +12,22 @@ const SHORT: i64 = 200;
 /// The margin of a point alone.
 const ALONE: i64 = 64 * 10;
 
+/// From the middle of a close view to its sides.
+const CLOSE: i64 = 4;
+
+/// An exact point, in units.
+pub type Place = (Fraction, Fraction);
+
+/// A point given in units.
+pub fn place(x: u16, y: u16) -> Place {
+    (Fraction::whole(x), Fraction::whole(y))
+}
+
+/// A point given in 64ths.
+pub fn in_units(x: impl Into<i128>, y: impl Into<i128>) -> Place {
+    (Fraction::new(x, 64), Fraction::new(y, 64))
+}
+
 /// A point given in units.
 pub fn in_64ths(x: u16, y: u16) -> (i64, i64) {
     (64 * i64::from(x), 64 * i64::from(y))
@@ -46,6 +62,16 @@ impl View {
         View { left: left - margin, bottom: bottom - margin, right: right + margin, top: top + margin }.widened()
     }
 
+    /// A few 64ths around a point given in them.
+    pub fn close_to(x: i64, y: i64) -> View {
+        View { left: x - CLOSE, bottom: y - CLOSE, right: x + CLOSE, top: y + CLOSE }
+    }
+
+    /// Whether 64ths are told apart: the other views are longer.
+    pub fn is_close(&self) -> bool {
+        self.longer() <= 2 * CLOSE
+    }
+
     /// The view with its shorter side, and a side of no length, made long enough.
     fn widened(self) -> View {
         let least = (self.longer().max(64) * SHORT + LONG - 1) / LONG;
@@ -69,8 +95,14 @@ impl View {
 
     /// Where a point is in the drawing, in pixels from its upper left corner.
     pub fn pixels(&self, x: i64, y: i64) -> (Fraction, Fraction) {
-        let scaled = |distance: i64| Fraction::new(distance * LONG, self.longer());
-        (scaled(x - self.left), scaled(self.top - y))
+        self.pixels_of(in_units(x, y))
+    }
+
+    /// The same of an exact point.
+    pub fn pixels_of(&self, (x, y): Place) -> (Fraction, Fraction) {
+        let scale = Fraction::new(64 * LONG, self.longer());
+        let (left, top) = in_units(self.left, self.top);
+        (scale * (x - left), scale * (top - y))
     }
 
     /// Tenths of a pixel in units of the sheet, printed.
@@ -95,7 +127,41 @@ impl View {
         [across(0), up(0), across(right), up(top)]
     }
 
+    /// The part of a line to draw. What is far from a close view is many thousand pixels away, where viewers lose lines
+    /// and misplace marks.
+    pub fn near(&self, a: Place, b: Place) -> Option<(Place, Place)> {
+        if !self.is_close() {
+            return Some((a, b));
+        }
+        let [left, bottom, right, top] = self.sheet();
+        let (low, high) = (in_units(left, bottom), in_units(right, top));
+        let across = part(a.0, b.0, low.0, high.0)?;
+        let up = part(a.1, b.1, low.1, high.1)?;
+        let (from, to) = (across.0.max(up.0), across.1.min(up.1));
+        let along = |a: Fraction, b: Fraction, part: Fraction| (a + part * (b - a)).reduced();
+        let at = |part: Fraction| (along(a.0, b.0, part), along(a.1, b.1, part));
+        (from <= to).then(|| (at(from), at(to)))
+    }
+
+    pub fn is_near(&self, place: Place) -> bool {
+        self.near(place, place).is_some()
+    }
+
+    /// Left, bottom, right and top of the view.
+    pub fn bounds(&self) -> [i64; 4] {
+        [self.left, self.bottom, self.right, self.top]
+    }
+
     pub fn holds(&self, x: i64, y: i64) -> bool {
         (self.left..=self.right).contains(&x) && (self.bottom..=self.top).contains(&y)
     }
+}
+
+/// The part of the way from a to b that is between low and high, in fractions of it.
+fn part(a: Fraction, b: Fraction, low: Fraction, high: Fraction) -> Option<(Fraction, Fraction)> {
+    if a == b {
+        return (low <= a && a <= high).then_some((Fraction::ZERO, Fraction::ONE));
+    }
+    let [first, last] = [low, high].map(|bound| (bound - a).over(b - a));
+    Some((first.min(last).max(Fraction::ZERO), first.max(last).min(Fraction::ONE)))
 }

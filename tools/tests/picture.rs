@@ -176,6 +176,67 @@ fn view_leaves_out_what_it_does_not_show() {
     assert!(svg.contains(">1</text>") && !svg.contains(">2</text>") && !svg.contains(">w1</text>"));
 }
 
+/// The numbers of the whole 64ths in a picture, those across before those upwards.
+fn numbers(svg: &str) -> Vec<u32> {
+    let group = svg.split("<g fill=\"#777\"").nth(1).unwrap().split("</g>").next().unwrap();
+    let texts = group.lines().filter(|line| line.starts_with("<text"));
+    texts.map(|line| line.split(['>', '<']).nth(2).unwrap().parse().unwrap()).collect()
+}
+
+#[test]
+fn an_end_is_shown_among_the_64ths() {
+    let svg = picture("halves", &["--end", "1"]).unwrap();
+    assert!(svg.contains("viewBox=\"101.0625 -100.5625 0.125 0.125\""));
+    assert!(svg.contains("<circle cx=\"101.117188\" cy=\"100.507813\""));
+    assert!(svg.contains("<path d=\"M101.125 100.5m-"));
+    // Of the lines upwards, trace 1 runs where the number of 6431 would stand.
+    assert_eq!(numbers(&svg), [6469, 6470, 6471, 6472, 6473, 6474, 6475, 6429, 6430, 6432, 6433, 6434, 6435]);
+    assert!(svg.contains("<path d=\"M101.109375 100.4375V100.5625\"/>"));
+    assert!(svg.contains("<path d=\"M101.0625 100.484375H101.1875\"/>"));
+    assert_eq!(letters(&svg), "L");
+    let legend = [">end point in the row, in 64ths</text>", ">whole 64ths</text>"];
+    let whole = picture("halves", &[]).unwrap();
+    assert!(legend.iter().all(|words| svg.contains(words) && !whole.contains(words)));
+}
+
+#[test]
+fn exact_ends_are_told_where_the_pointer_rests() {
+    let told = |name, id| {
+        let svg = picture(name, &["--end", id]).unwrap();
+        let group = svg.split("pointer-events=\"all\"").nth(1).unwrap().split("</g>").next().unwrap();
+        let titles = group.split("</title>").filter_map(|part| Some(part.split_once("<title>")?.1.to_string()));
+        titles.collect::<Vec<_>>()
+    };
+    assert_eq!(told("halves", "1"), ["track 1: 6472, 6432 for 6471 1/2, 6432 1/2"]);
+    assert_eq!(told("halves", "2"), ["track 2: 6479, 6464 for 6478 10/13, 6464"]);
+    assert_eq!(told("halves", "3"), ["track 3: 6434, 6528 for 6434 6/13, 6528"]);
+    assert_eq!(told("J", "1"), ["track 1: 43, 43 for 42 2/3, 42 2/3"]);
+    // Tips that meet have one mark.
+    assert_eq!(told("B", "2"), ["track 1: 12800, 6400 for 12800, 6400\ntrack 2: 12800, 6400 for 12800, 6400"]);
+}
+
+#[test]
+fn an_end_at_the_edge_has_the_numbers_of_the_sheet() {
+    let svg = picture("A", &["--end", "2"]).unwrap();
+    let across = 12797..12804;
+    assert_eq!(numbers(&svg), across.chain(262077..262081).collect::<Vec<_>>());
+    // Trace 2 comes from far below and trace 1 ends there.
+    assert!(svg.contains("<line x1=\"200\" y1=\"4094.8125\" x2=\"200\" y2=\"4095\"/>"));
+    assert_eq!([svg.matches("<line").count(), svg.matches(", time ").count()], [1, 1]);
+}
+
+#[test]
+fn an_end_is_one_of_the_roll_in_a_view_of_its_own() {
+    let wrong = |options: &[&str]| picture("A", options).unwrap_err();
+    assert_eq!(wrong(&["--end", "3"]), "sheet-svg: --end 3: no row of track 3\n");
+    let view = ["--view", "0", "0", "400", "300", "--end", "1"];
+    assert_eq!(wrong(&view), "sheet-svg: --end shows a part of its own: leave out --view\n");
+    assert_eq!(wrong(&["--end", "1", "--grid", "8"]), "sheet-svg: --end shows a part of its own: leave out --grid\n");
+    for id in ["-1", "65536", "x"] {
+        assert!(wrong(&["--end", id]).contains("usage"));
+    }
+}
+
 #[test]
 fn notes_stand_in_the_view() {
     let note = |x: &str| picture("A", &["--view", "0", "0", "300", "300", "--note", x, "90", "a <b & c"]);
@@ -241,7 +302,7 @@ fn ids_stand_apart() {
         ids.len()
     });
     // There is no room for half of D's ids with two digits, nor for F's wall between trace 1 and the edge.
-    assert_eq!(found, [2, 2, 2, 36, 4, 2, 2, 2, 2, 1, 1, 2, 0, 4, 6, 6, 7, 4, 9, 12]);
+    assert_eq!(found, [2, 2, 2, 36, 4, 2, 2, 2, 2, 1, 1, 2, 0, 4, 6, 6, 7, 4, 9, 12, 5]);
 }
 
 #[test]
@@ -259,6 +320,7 @@ fn stored_pictures_are_the_drawn_ones() {
         let near = picture(name, &["--view", "0", "0", "400", "300"]).unwrap();
         assert_eq!(stored(&format!("{name}-near")).unwrap(), near, "{name}");
     }
+    assert_eq!(stored("halves-end").unwrap(), picture("halves", &["--end", "1"]).unwrap());
     for name in ["A", "D"] {
         let whole = ["--grid", "8", "--view", "0", "0", "4095", "4095"];
         let options = if name == "A" { &whole[..] } else { &whole[..2] };

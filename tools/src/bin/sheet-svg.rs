@@ -3,13 +3,15 @@
 use reference::cells::{Cell, FIGURES};
 use reference::sheet::Records;
 use sheet_tools::picture::{draw, Note, Options};
+use sheet_tools::trace::{self, Trace};
 use sheet_tools::view::View;
-use sheet_tools::{roll, sheet, trace};
+use sheet_tools::{roll, sheet};
 use std::io::{self, Write};
 use std::process::ExitCode;
 
 const USAGE: &str =
-    "usage: sheet-svg [--grid G [--cell COLUMN ROW]] [--view AX AY BX BY] [--note X Y WORDS]… SHEET ROLL > PICTURE";
+    "usage: sheet-svg [--grid G [--cell COLUMN ROW]] [--view AX AY BX BY] [--end ID] [--note X Y WORDS]… SHEET ROLL \
+    > PICTURE";
 
 fn main() -> ExitCode {
     match run() {
@@ -23,7 +25,7 @@ fn main() -> ExitCode {
 
 fn run() -> Result<(), String> {
     let arguments: Vec<String> = std::env::args().skip(1).collect();
-    let (options, [sheet_path, roll_path]) = parse(&arguments)?;
+    let (mut options, end, [sheet_path, roll_path]) = parse(&arguments)?;
     let bytes = std::fs::read(sheet_path).map_err(|wrong| format!("{sheet_path}: {wrong}"))?;
     let text = std::fs::read_to_string(roll_path);
     let text = text.map_err(|wrong| format!("{roll_path}: {wrong}"))?;
@@ -31,13 +33,23 @@ fn run() -> Result<(), String> {
     let roll = roll::parse(&text)?;
     let records = Records::of(&sheet::from_bytes(&bytes)?);
     let traces = trace::traces(&records.tracks, &roll)?;
+    if let Some(id) = end {
+        options.view = Some(surroundings(&traces, id)?);
+    }
     let svg = draw(&records.walls, &traces, options);
     io::stdout().write_all(svg.as_bytes()).map_err(|wrong| wrong.to_string())
 }
 
-/// The options, and the two paths after them.
-fn parse(arguments: &[String]) -> Result<(Options, [&str; 2]), String> {
-    let mut options = Options::default();
+/// What is shown around the end of a track.
+fn surroundings(traces: &[Trace], id: u16) -> Result<View, String> {
+    let trace = traces.iter().find(|trace| trace.row.id == id);
+    let row = trace.ok_or_else(|| format!("--end {id}: no row of track {id}"))?.row;
+    Ok(View::close_to(row.x.into(), row.y.into()))
+}
+
+/// The options, the track whose end is shown, and the two paths after them.
+fn parse(arguments: &[String]) -> Result<(Options, Option<u16>, [&str; 2]), String> {
+    let (mut options, mut end) = (Options::default(), None);
     let mut words: Vec<&str> = arguments.iter().map(String::as_str).collect();
     loop {
         let taken = match words[..] {
@@ -58,12 +70,18 @@ fn parse(arguments: &[String]) -> Result<(Options, [&str; 2]), String> {
                 options.view = Some(View::between(ax, ay, bx, by));
                 5
             }
+            ["--end", id, ..] => {
+                end = Some(id.parse().map_err(|_| USAGE)?);
+                2
+            }
             ["--note", x, y, words, ..] => {
                 let (Ok(x), Ok(y)) = (x.parse(), y.parse()) else { return Err(USAGE.into()) };
                 options.notes.push(Note { x, y, words: words.into() });
                 4
             }
-            [sheet, roll] => return check_cell(&options).map(|()| (options, [sheet, roll])),
+            [sheet, roll] => {
+                return check_cell(&options).and(check_end(&options, end)).map(|()| (options, end, [sheet, roll]))
+            }
             _ => return Err(USAGE.into()),
         };
         words.drain(..taken);
@@ -76,5 +94,13 @@ fn check_cell(options: &Options) -> Result<(), String> {
         (Some(_), None) => Err("--cell is for a grid: give --grid as well".into()),
         (Some(cell), Some(figure)) if cell.column.max(cell.row) >= figure => Err("the cell is outside the grid".into()),
         _ => Ok(()),
+    }
+}
+
+/// An end has a view of its own, too close for a grid.
+fn check_end(options: &Options, end: Option<u16>) -> Result<(), String> {
+    match end.and(options.view.map(|_| "--view").or(options.grid.map(|_| "--grid"))) {
+        Some(other) => Err(format!("--end shows a part of its own: leave out {other}")),
+        None => Ok(()),
     }
 }
