@@ -3,6 +3,7 @@
 
 use fissures::{numbers, Cell, GridRoll, Place, Row, Session, Shapefile, Side, LONGEST_ROLL, ROW, SHAPEFILES};
 use reference::cells::{self, FIGURES};
+use reference::chosen;
 use reference::made_up::entering::{entering, entering_late, Entering};
 use reference::made_up::{self, facing, late, BORDERS, COARSE, SMALL};
 use reference::names::place_in;
@@ -75,7 +76,7 @@ fn order() {
 
 #[test]
 fn plain() {
-    for sheet in sheets(3).into_iter().chain(reference::chosen::sides::sheets()) {
+    for sheet in [sheets(3), chosen::sides::sheets(), chosen::halves::sheets()].concat() {
         let expected = read(&sheet).map(|records| roll(&records)).map(|rows| (rows.len(), roll_bytes(&rows)));
         compare(&expected, |out| fissures::plain(&sheet, out));
     }
