@@ -3,6 +3,7 @@ use mathlib.Core.Path.{_≡_}
 use Prim.Native.Nat.{ℕ, _+_, _*_}
 use Rattle.fraction.specs.Whole.{Whole, nat, _≈_, _⊑_, _⊕_, _·_}
 
+-- an even number (SHEETS 5.4)
 pub record Even (q : ℕ) : Type 0 where
   pub half : ℕ
   pub is : q ≡ 2 * half
