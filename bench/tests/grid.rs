@@ -1,7 +1,7 @@
 //! The grid run in Rust compared with the reference implementation: rows, and cells entered, at the six figures.
 
 use reference::cells::{count, FIGURES};
-use reference::made_up::{facing, halves, late, sides, GROUNDS};
+use reference::made_up::{by_each, facing, halves, late, sides, Maker, GROUNDS};
 use reference::rng::Rng;
 use reference::roll::{roll, roll_bytes};
 use reference::sheet::{commands, listing, read, Records};
@@ -21,6 +21,13 @@ fn check(records: &Records) {
     assert!(out == expected, "plain run: {records:?}");
 }
 
+/// So many accepted sheets by each of these makers.
+fn check_each(rng: &mut Rng, makers: &[Maker], count: usize) {
+    for sheet in by_each(rng, makers, count) {
+        check(&read(&sheet).expect("accepted"));
+    }
+}
+
 #[test]
 fn chosen_and_made_up_sheets() {
     let sheets = [chosen::all(), made_up::all(1), made_up::all(5)].concat();
@@ -30,44 +37,23 @@ fn chosen_and_made_up_sheets() {
 #[test]
 fn sheets_with_start_times() {
     let mut rng = Rng::new(7);
-    for make in late::MAKERS {
-        for _ in 0..1000 {
-            check(&read(&make(&mut rng)).expect("accepted"));
-        }
-    }
-    for _ in 0..6 {
-        check(&read(&late::large(&mut rng)).expect("accepted"));
-    }
+    check_each(&mut rng, &late::MAKERS, 1000);
+    check_each(&mut rng, &[late::large], 6);
 }
 
 #[test]
 fn sheets_with_facing_tips() {
-    let mut rng = Rng::new(9);
-    for make in facing::MAKERS {
-        for _ in 0..2000 {
-            check(&read(&make(&mut rng)).expect("accepted"));
-        }
-    }
+    check_each(&mut Rng::new(9), &facing::MAKERS, 2000);
 }
 
 #[test]
 fn sheets_with_halves() {
-    let mut rng = Rng::new(10);
-    for make in halves::MAKERS {
-        for _ in 0..500 {
-            check(&read(&make(&mut rng)).expect("accepted"));
-        }
-    }
+    check_each(&mut Rng::new(10), &halves::MAKERS, 500);
 }
 
 #[test]
 fn sheets_with_causes_at_one_time() {
-    let mut rng = Rng::new(8);
-    for make in sides::MAKERS {
-        for _ in 0..2000 {
-            check(&read(&make(&mut rng)).expect("accepted"));
-        }
-    }
+    check_each(&mut Rng::new(8), &sides::MAKERS, 2000);
 }
 
 #[test]

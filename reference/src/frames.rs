@@ -10,7 +10,7 @@
 
 use crate::handed_in::HandedIn;
 use crate::names::Lookup;
-use crate::sheet::{Records, Track, Wall};
+use crate::sheet::{read, Records, Track, Wall};
 use crate::{chosen, made_up};
 use std::io::{self, Read, Write};
 
@@ -140,4 +140,13 @@ pub fn all(seed: u64) -> Vec<Frame> {
     let sheets = sheets.into_iter().map(Frame::Sheet);
     let records = records.into_iter().map(Frame::Records);
     sheets.chain(records).chain(lookups.into_iter().map(Frame::Lookup)).collect()
+}
+
+/// The records of those sheets and lists that are accepted.
+pub fn accepted(seed: u64) -> impl Iterator<Item = Records> {
+    all(seed).into_iter().filter_map(|frame| match frame {
+        Frame::Sheet(sheet) => read(&sheet).ok(),
+        Frame::Records(handed_in) => handed_in.check().ok(),
+        Frame::Lookup(_) => None,
+    })
 }

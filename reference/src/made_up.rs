@@ -12,6 +12,9 @@ pub mod sides;
 use crate::rng::Rng;
 use crate::sheet::{listing, read, whole_commands, Command, Records, Track, Wall, MAX_COORDINATE};
 
+/// What makes a sheet.
+pub type Maker = fn(&mut Rng) -> Vec<u8>;
+
 /// Where starts and wall ends are put: `count` lines each way, `step` apart. Few lines make
 /// meetings, facing tips and refusals 8 to 10 frequent.
 #[derive(Clone, Copy, Debug)]
@@ -227,6 +230,11 @@ pub fn with_other_orders(seed: u64, sheets: Vec<Vec<u8>>) -> Vec<Vec<u8>> {
     sheets.into_iter().flat_map(with_other).collect()
 }
 
+/// So many sheets by each of these makers.
+pub fn by_each(rng: &mut Rng, makers: &[Maker], count: usize) -> Vec<Vec<u8>> {
+    makers.iter().flat_map(|make| std::iter::repeat_n(make, count)).map(|make| make(rng)).collect()
+}
+
 /// All made-up sheets of one seed.
 pub fn all(seed: u64) -> Vec<Vec<u8>> {
     let other = [late::all(seed), sides::all(seed), shapes::all(seed), facing::all(seed), halves::all(seed)];
@@ -237,7 +245,7 @@ pub fn all(seed: u64) -> Vec<Vec<u8>> {
 pub fn without_start_times(seed: u64) -> Vec<Vec<u8>> {
     let mut rng = Rng::new(seed);
     let mut sheets = Vec::new();
-    let mut add = |count, make: fn(&mut Rng) -> Vec<u8>| {
+    let mut add = |count, make: Maker| {
         sheets.extend((0..count).map(|_| make(&mut rng)));
     };
     add(700, accepted);

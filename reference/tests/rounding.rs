@@ -6,7 +6,7 @@ mod nearest;
 use nearest::is_nearest;
 use reference::chosen::{document, halves};
 use reference::fraction::Fraction;
-use reference::frames::{self, Frame};
+use reference::frames;
 use reference::roll::{roll, Row};
 use reference::shapefile::{shapes, Layer, Shape};
 use reference::sheet::{read, Records, Track};
@@ -194,21 +194,12 @@ fn misreadings_are_found_out() {
     }
 }
 
-/// The records of all accepted sheets and lists that the proved program is asked.
-fn asked() -> impl Iterator<Item = Records> {
-    frames::all(1).into_iter().filter_map(|frame| match frame {
-        Frame::Sheet(sheet) => read(&sheet).ok(),
-        Frame::Records(handed_in) => handed_in.check().ok(),
-        Frame::Lookup(_) => None,
-    })
-}
-
 #[test]
 fn what_is_asked_has_halves_of_every_kind_there_is() {
     // By kind of ending, coordinate, and whether the even neighbour is above.
     let mut counts: BTreeMap<(u8, &str, bool), usize> = BTreeMap::new();
     let mut both = 0;
-    for records in asked() {
+    for records in frames::accepted(1) {
         for row in roll(&records) {
             let parts = Part::of(&records, &row);
             for (part, name) in parts.iter().zip(["x", "y"]).filter(|(part, _)| part.is_half()) {
@@ -229,7 +220,7 @@ fn what_is_asked_has_halves_of_every_kind_there_is() {
 fn what_is_asked_has_ends_just_beside_halves() {
     // Below and above, as close as a large denominator allows.
     let mut counts = [0; 2];
-    for part in asked().flat_map(|records| parts(&records)) {
+    for part in frames::accepted(1).flat_map(|records| parts(&records)) {
         let (numerator, denominator) = part.exact.lowest();
         let off = 2 * numerator.rem_euclid(denominator) - denominator;
         if off.abs() == 1 && denominator > 400_000 {
@@ -243,7 +234,7 @@ fn what_is_asked_has_ends_just_beside_halves() {
 #[test]
 fn a_null_shape_is_a_tip_that_moves_at_most_half_a_64th_each_way() {
     let mut counts: BTreeMap<&str, usize> = BTreeMap::new();
-    for records in asked() {
+    for records in frames::accepted(1) {
         let rows = roll(&records);
         for (row, shape) in rows.iter().zip(shapes(Layer::Traces, &records, &rows)) {
             let moved = Part::of(&records, row).map(|part| part.moved());

@@ -8,8 +8,8 @@ use causes::{end, ends, End, Ends};
 use nearest::is_nearest;
 use reference::chosen;
 use reference::fraction::Fraction;
-use reference::frames::{self, Frame};
-use reference::made_up::{self, facing, halves, late, sides};
+use reference::frames;
+use reference::made_up::{self, by_each, facing, halves, late, sides, Maker};
 use reference::rng::Rng;
 use reference::roll::{roll, roll_bytes, Ending, Row, Side};
 use reference::sheet::{commands, listing, read, Records};
@@ -47,6 +47,13 @@ fn check_roll(records: &Records) -> Vec<Row> {
         check_row(records, row, &ends);
     }
     rows
+}
+
+/// So many accepted sheets by each of these makers.
+fn check_roll_each(rng: &mut Rng, makers: &[Maker], count: usize) {
+    for sheet in by_each(rng, makers, count) {
+        check_roll(&read(&sheet).expect("accepted"));
+    }
 }
 
 #[test]
@@ -103,47 +110,23 @@ fn rolls_of_sheets_with_start_times_are_the_rule_s() {
 
 #[test]
 fn rolls_of_sheets_with_causes_at_one_time_are_the_rule_s() {
-    let mut rng = Rng::new(15);
-    for make in sides::MAKERS {
-        for _ in 0..3000 {
-            check_roll(&read(&make(&mut rng)).expect("accepted"));
-        }
-    }
+    check_roll_each(&mut Rng::new(15), &sides::MAKERS, 3000);
 }
 
 #[test]
 fn rolls_of_sheets_with_facing_tips_are_the_rule_s() {
-    let mut rng = Rng::new(16);
-    for make in facing::MAKERS {
-        for _ in 0..1500 {
-            check_roll(&read(&make(&mut rng)).expect("accepted"));
-        }
-    }
+    check_roll_each(&mut Rng::new(16), &facing::MAKERS, 1500);
 }
 
 #[test]
 fn rolls_of_sheets_with_halves_are_the_rule_s() {
-    let mut rng = Rng::new(17);
-    for make in halves::MAKERS {
-        for _ in 0..1000 {
-            check_roll(&read(&make(&mut rng)).expect("accepted"));
-        }
-    }
-}
-
-/// The records of all accepted sheets and lists that the proved program is asked.
-fn asked() -> impl Iterator<Item = Records> {
-    frames::all(1).into_iter().filter_map(|frame| match frame {
-        Frame::Sheet(sheet) => read(&sheet).ok(),
-        Frame::Records(handed_in) => handed_in.check().ok(),
-        Frame::Lookup(_) => None,
-    })
+    check_roll_each(&mut Rng::new(17), &halves::MAKERS, 1000);
 }
 
 #[test]
 fn what_is_asked_has_every_side_that_there_is() {
     let mut counts: BTreeMap<(u8, u8), usize> = BTreeMap::new();
-    for row in asked().flat_map(|records| roll(&records)) {
+    for row in frames::accepted(1).flat_map(|records| roll(&records)) {
         *counts.entry((row.ending.kind(), row.side.number())).or_default() += 1;
     }
     println!("rows by kind and side: {counts:?}");
@@ -165,7 +148,7 @@ fn what_is_asked_has_causes_with_different_sides_at_one_time() {
     // By class and side of the cause that is named, and of one that is not.
     let mut counts: BTreeMap<[(&str, Side); 2], usize> = BTreeMap::new();
     let mut rows_with_another = 0;
-    for records in asked() {
+    for records in frames::accepted(1) {
         let ends = ends(&roll(&records));
         for tip in &records.tracks {
             let causes = end(&records, tip, &ends).causes.into_iter().map(|(ending, side)| (class(ending), side));

@@ -4,8 +4,8 @@
 
 use reference::chosen;
 use reference::fraction::Fraction;
-use reference::frames::{self, Frame};
-use reference::made_up::facing;
+use reference::frames;
+use reference::made_up::{by_each, facing};
 use reference::plane::Vector;
 use reference::rng::Rng;
 use reference::roll::{roll, Ending, Row, Side};
@@ -179,23 +179,13 @@ fn face(a: &Track, b: &Track) -> bool {
 }
 
 fn made_up(seed: u64, count: usize) -> impl Iterator<Item = Records> {
-    let mut rng = Rng::new(seed);
-    let sheets = facing::MAKERS.into_iter().flat_map(move |make| std::iter::repeat_n(make, count));
-    sheets.map(move |make| read(&make(&mut rng)).expect("accepted"))
-}
-
-/// The records of all accepted sheets and lists that the proved program is asked.
-fn asked() -> impl Iterator<Item = Records> {
-    frames::all(1).into_iter().filter_map(|frame| match frame {
-        Frame::Sheet(sheet) => read(&sheet).ok(),
-        Frame::Records(handed_in) => handed_in.check().ok(),
-        Frame::Lookup(_) => None,
-    })
+    let sheets = by_each(&mut Rng::new(seed), &facing::MAKERS, count);
+    sheets.into_iter().map(|sheet| read(&sheet).expect("accepted"))
 }
 
 #[test]
 fn rolls_agree_with_their_traces() {
-    for records in made_up(21, 1500).chain(asked()) {
+    for records in made_up(21, 1500).chain(frames::accepted(1)) {
         assert_eq!(check(&records, &roll(&records)), Ok(()), "{records:?}");
     }
 }
@@ -303,7 +293,7 @@ fn count_facing(all: impl Iterator<Item = Records>) -> BTreeMap<&'static str, us
 
 #[test]
 fn what_is_asked_has_every_end_of_facing_tips() {
-    let with_facing = asked().filter(|records| {
+    let with_facing = frames::accepted(1).filter(|records| {
         let tracks = &records.tracks;
         tracks.iter().any(|tip| tracks.iter().any(|other| face(tip, other)))
     });

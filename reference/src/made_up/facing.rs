@@ -1,8 +1,8 @@
 //! Made-up sheets with tips that face each other: pairs and more on one line, late ones among them, with walls and
 //! traces that end one of them first, and places to which several come. They are small, so that equal times are frequent.
 
-use super::id;
 use super::late::Kept;
+use super::{by_each, id, Maker};
 use crate::line::Line;
 use crate::plane::Vector;
 use crate::rng::Rng;
@@ -238,11 +238,9 @@ pub fn at_the_edge(rng: &mut Rng) -> Vec<u8> {
 }
 
 /// What makes accepted sheets.
-pub const MAKERS: [fn(&mut Rng) -> Vec<u8>; 7] = [pair, several, opening, together, crossed, dense, at_the_edge];
+pub const MAKERS: [Maker; 7] = [pair, several, opening, together, crossed, dense, at_the_edge];
 
 /// All made-up sheets of one seed.
 pub fn all(seed: u64) -> Vec<Vec<u8>> {
-    let mut rng = Rng::new(seed);
-    let each = |make| std::iter::repeat_n(make, 440);
-    MAKERS.into_iter().flat_map(each).map(|make| make(&mut rng)).collect()
+    by_each(&mut Rng::new(seed), &MAKERS, 440)
 }

@@ -2,7 +2,7 @@
 //! walls and traces across the ways of tips, at once, and looked for among many starts.
 
 use super::late::Kept;
-use super::{id, BORDERS, SMALL, TOP, WHOLE};
+use super::{by_each, id, Maker, BORDERS, SMALL, TOP, WHOLE};
 use crate::chosen::halves::{aimed, start_to_cross, tip, wall_between, AIMS};
 use crate::fraction::Fraction;
 use crate::plane::Vector;
@@ -115,11 +115,9 @@ pub fn looked_for(rng: &mut Rng) -> Vec<u8> {
 }
 
 /// What makes accepted sheets.
-pub const MAKERS: [fn(&mut Rng) -> Vec<u8>; 4] = [at_slow_walls, at_crossings, at_once, looked_for];
+pub const MAKERS: [Maker; 4] = [at_slow_walls, at_crossings, at_once, looked_for];
 
 /// All made-up sheets of one seed.
 pub fn all(seed: u64) -> Vec<Vec<u8>> {
-    let mut rng = Rng::new(seed);
-    let each = |make| std::iter::repeat_n(make, 100);
-    MAKERS.into_iter().flat_map(each).map(|make| make(&mut rng)).collect()
+    by_each(&mut Rng::new(seed), &MAKERS, 100)
 }

@@ -1,6 +1,6 @@
 //! Made-up records handed in: those of made-up sheets, sometimes with other counts.
 
-use super::{accepted, doubtful, facing, halves, late, nearly_accepted, provoked, shapes, sides};
+use super::{accepted, doubtful, facing, halves, late, nearly_accepted, provoked, shapes, sides, Maker};
 use crate::handed_in::HandedIn;
 use crate::rng::Rng;
 use crate::sheet::{whole_commands, Records};
@@ -18,9 +18,8 @@ fn count(rng: &mut Rng, listed: usize) -> u64 {
 }
 
 /// What each of these makes is whole commands.
-const MAKERS: [fn(&mut Rng) -> Vec<u8>; 5] = [accepted, accepted, nearly_accepted, doubtful, provoked];
-const LATE_MAKERS: [fn(&mut Rng) -> Vec<u8>; 5] =
-    [late::accepted, late::opening, late::nearly_accepted, late::doubtful, late::provoked];
+const MAKERS: [Maker; 5] = [accepted, accepted, nearly_accepted, doubtful, provoked];
+const LATE_MAKERS: [Maker; 5] = [late::accepted, late::opening, late::nearly_accepted, late::doubtful, late::provoked];
 
 pub fn handed_in(rng: &mut Rng) -> HandedIn {
     made_by(rng, &MAKERS)

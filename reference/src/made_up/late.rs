@@ -1,7 +1,7 @@
 //! Made-up sheets with start times: tips that open on the way of others, behind and ahead of others
 //! on one line, together with others, on the edge; and refused ones.
 
-use super::{damage, ground, provoking_command, Ground, BORDERS, WHOLE};
+use super::{damage, ground, provoking_command, Ground, Maker, BORDERS, WHOLE};
 use crate::plane::Vector;
 use crate::rng::Rng;
 use crate::sheet::{listing, Command, Records, Track};
@@ -135,7 +135,7 @@ pub fn at_the_edge(rng: &mut Rng) -> Vec<u8> {
 }
 
 /// What makes accepted sheets.
-pub const MAKERS: [fn(&mut Rng) -> Vec<u8>; 5] = [accepted, opening, on_one_line, meeting, at_the_edge];
+pub const MAKERS: [Maker; 5] = [accepted, opening, on_one_line, meeting, at_the_edge];
 
 /// A command that may be refused for its start time, or as one without it.
 fn doubtful_command(rng: &mut Rng, ground: &Ground) -> Command {

@@ -1,7 +1,7 @@
 //! Made-up sheets for the shapefiles (SHEETS 12): tips that end at their start, and such that end about a 64th from it.
 
 use super::late::{drawn, Kept};
-use super::{ground, id};
+use super::{by_each, ground, id, Maker};
 use crate::rng::Rng;
 use crate::sheet::{Command, Records, Track, Wall};
 
@@ -88,11 +88,9 @@ pub fn barely(rng: &mut Rng) -> Vec<u8> {
 }
 
 /// What makes accepted sheets.
-pub const MAKERS: [fn(&mut Rng) -> Vec<u8>; 3] = [null, all_outward, barely];
+pub const MAKERS: [Maker; 3] = [null, all_outward, barely];
 
 /// All made-up sheets of one seed.
 pub fn all(seed: u64) -> Vec<Vec<u8>> {
-    let mut rng = Rng::new(seed);
-    let each = |make| std::iter::repeat_n(make, 100);
-    MAKERS.into_iter().flat_map(each).map(|make| make(&mut rng)).collect()
+    by_each(&mut Rng::new(seed), &MAKERS, 100)
 }

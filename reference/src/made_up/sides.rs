@@ -2,7 +2,7 @@
 //! come together at a few points.
 
 use super::late::Kept;
-use super::{ground, id};
+use super::{ground, id, Maker};
 use crate::plane::Vector;
 use crate::rng::Rng;
 use crate::sheet::{Command, Records, Track, Wall};
@@ -69,7 +69,7 @@ pub fn knots(rng: &mut Rng) -> Vec<u8> {
 }
 
 /// What makes accepted sheets.
-pub const MAKERS: [fn(&mut Rng) -> Vec<u8>; 1] = [knots];
+pub const MAKERS: [Maker; 1] = [knots];
 
 /// All made-up sheets of one seed.
 pub fn all(seed: u64) -> Vec<Vec<u8>> {
