@@ -5,7 +5,7 @@ use mathlib.Core.List.{List, [], _∷_, _++_, List·Memᴰ·head, List·Memᴰ·
 use Prim.Native.Nat.{ℕ, _+_, _*_, _≤_, _<_}
 use native.Mathlib.Omega.{arith}
 use lib.ListN.{length, drop, length-map}
-use Rattle.fraction.specs.Whole.{Whole, nat, _⊑_, _⊕_, _·_}
+use Rattle.fraction.specs.Whole.{Whole, _·_}
 use Rattle.rounding.specs.Nearest.{Nearest}
 use Rattle.rounding.proofs.OneNearest.{nearest-once}
 use Rattle.sheet.specs.declared.Command.{Command}

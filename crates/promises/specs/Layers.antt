@@ -48,7 +48,7 @@ pub record HalfA64th (P : Whole) (d x : ℕ) : Type 0 where
   pub low : nat (128 * x * d) ⊑ P · 128 ⊕ nat d
   pub high : P · 128 ⊑ nat ((128 * x + 1) * d)
 
--- the tip of a row ends no further from its start, in x and in y
+-- the tip of a row ends no further than that from its start, in x and in y (SHEETS 12.5)
 abbrev pub Still : Row → Track → Type 0
 Still r a = HalfA64th (X a (time r)) (r .at .den) (a .x) × HalfA64th (Y a (time r)) (r .at .den) (a .y)
 
@@ -64,7 +64,7 @@ pub record Layers (l : List Command) : Type 0 where
   pub is-roll : RollOf (listing l) roll
   pub shapes : Layer → List Figure
   pub each : (layer : Layer) → ShapesOf l layer roll (shapes layer)
-  -- a row's trace is a null shape exactly where its tip has hardly moved (SHEETS 12.5)
+  -- a row's trace is a null shape, its two points one, exactly where its tip ends at most half a 64th from its start (SHEETS 12.5)
   pub null-shape : (r : Row) (a : Track) → r ∈ roll → a ∈ tracksOf l → a .id ≡ r .id → ((64 * a .x ≡ r .x) × (64 * a .y ≡ r .y)) ↔ Still r a
   -- the two files of a layer
   pub file : Layer → Part → List ℕ

@@ -7,7 +7,7 @@ use native.Mathlib.Nat.{mul-comm, mul-pos, mul-le-mul-right, le-of-mul-le-mul-ri
 use native.Mathlib.Omega.{arith}
 use lib.Dec.{T, ltb, ltb→lt, nltb→le}
 use Rattle.fraction.specs.Whole.{Whole, nat, _≈_, _⊑_, _·_}
-use Rattle.rounding.specs.Nearest.{Even, Halfway, Nearest}
+use Rattle.rounding.specs.Nearest.{Halfway, Nearest}
 use Rattle.rounding.specs.Computed.{byRest, nearestOf}
 
 -- ---- at most one

@@ -1,5 +1,4 @@
 -- The 64ths of an end point (SHEETS 5.4): `rounded-of`, what is computed is the nearest; `rounded-inside`, a point of the sheet stays on it.
-use mathlib.Core.Path.{_≡_}
 use Prim.Native.Nat.{ℕ, _*_, _-_, _≤_, _<_}
 use native.Mathlib.Omega.{arith}
 use Rattle.fraction.specs.Whole.{Whole, nat, _⊑_, _·_}
