@@ -2,7 +2,7 @@
 use borrow.Author.Rules.{rules}
 use mathlib.Core.Path.{refl}
 use Rattle.cells.specs.Grid.{is_figure}
-use Rattle.cells.proofs.Figures.{is_figure}
+use Rattle.cells.proofs.Figures.{is_figure_lem}
 use Rattle.faster_run.proofs.roll.Statement.{statement}
 use Rattle.faster_run.proofs.roll.Tie as tie
 
@@ -11,7 +11,7 @@ roll-requires c κs = search rules
 
 roll-requires-2 : tie.Need-roll-requires-2
 unfolding is_figure
-roll-requires-2 c κs = let p = c.before.before.before.before.requires in (p.0, is_figure _ refl, p.1)
+roll-requires-2 c κs = let p = c.before.before.before.before.requires in (p.0, is_figure_lem _ refl, p.1)
 
 same_length : tie.Need-same-length
 same_length c = search rules

@@ -3,7 +3,7 @@ use mathlib.Core.Path.{refl, sym, ◌∙◌}
 use borrow.Author.Rules.{rules}
 use borrow.Author.Tests.{not-true, not-false}
 use Rattle.sheet.specs.HandedIn.{handed_in}
-use Rattle.cells.proofs.Figures.{is_figure}
+use Rattle.cells.proofs.Figures.{is_figure_lem}
 use Rattle.plain_run.proofs.Outcome.{too_short, all-rows}
 use Rattle.grid_run.proofs.Outcome.{none_count, rows_count, no_figure, as_plain}
 use Rattle.grid_run.proofs.rows.Statement.{statement}
@@ -27,7 +27,7 @@ returns-2 c =
     as_plain (handed_in a.sheet) a.g a.out.now f refl (sym (none_count 12 _ _)) (too_short c.before.before.before.before.requires a.out.now c.if2.true)
 
 roll-requires : tie.Need-roll-requires
-roll-requires c κs = (c.before.before.before.before.before.requires, is_figure _ (sym c.before.before.before.is_figure.ensures ∙ not-false _ c.before.before.if1.false), c.before.if2.false)
+roll-requires c κs = (c.before.before.before.before.before.requires, is_figure_lem _ (sym c.before.before.before.is_figure.ensures ∙ not-false _ c.before.before.if1.false), c.before.if2.false)
 
 same_length : tie.Need-same-length
 same_length c = search rules
