@@ -1,4 +1,6 @@
 // Where a tip comes to the point at which another on its line had ended (SHEETS 4.5, 4.15), exact, in 64 bits.
+#![tactic(auto)]
+
 ghost use Rattle.std.specs.Prelude.{◌≡◌, true, false, ◌*◌, ◌≤◌, pos, ◌+ℤ◌, ◌*ℤ◌};
 ghost use Rattle.fraction.specs.Sizes.{greatest_part, greatest_age, greatest_row_num, greatest_row_den, Small};
 ghost use Rattle.fraction.specs.Time.{as_time};

@@ -1,6 +1,8 @@
 // A bulletin (SHEETS 9.4): the first three endings on a sheet, and how many tracks then still run; or the sheet's refusal.
 //     target/bin/bulletin < examples/E.sheet
 // The smallest whole program over the interface crate `fissures`; `bulletin` says what is printed.
+#![tactic(auto)]
+
 ghost use Rattle.std.specs.Prelude.{◌≡◌, ◌+◌, ◌≤◌, length, take};
 ghost use Rattle.sheet.specs.HandedIn.{check_of};
 ghost use Rattle.session.specs.Stepping.{running_of};

@@ -1,11 +1,13 @@
 // Fields of a buffer (SHEETS 1.4): numbers of any width, low byte first, and signed bytes; in shapefiles high byte first too (SHEETS 12.2).
+#![tactic(auto)]
+
 ghost use Rattle.std.specs.Prelude.{◌≡◌, ◌+◌, ◌^◌, ◌≤◌, ◌<◌, length};
 ghost use Rattle.std.proofs.lemmas.List.Edits.{sets};
 ghost use Rattle.byte_order.specs.Bytes.{le_bytes, le_of, signed_of, byte_of};
 ghost use Rattle.byte_order.specs.Orders.{be_bytes, number_bytes};
 
 // Which byte of a number comes first.
-#[derive(Drop)]
+#[derive(Clone, Copy)]
 pub enum Order {
     LowFirst,
     HighFirst,

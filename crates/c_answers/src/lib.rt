@@ -1,4 +1,6 @@
 // Answers as numbers, for callers in other languages (SHEETS 11.1, 11.2).
+#![tactic(auto)]
+
 ghost use Rattle.std.specs.Prelude.{◌≡◌};
 ghost use Rattle.sheet.specs.Answer.{answered};
 ghost use Rattle.c_answers.specs.Answers.{told};

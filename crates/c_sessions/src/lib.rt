@@ -1,5 +1,7 @@
 // Sessions for other languages (SHEETS 11.3, 11.4): a session is a lent slice of numbers, and its sheet comes with each call, as bytes.
 // What the numbers say is never believed: no more rows are shown than there are, and the number still running is worked out.
+#![tactic(auto)]
+
 ghost use Rattle.std.specs.Prelude.{◌≡◌, ◌∷◌, ◌≤◌, length, drop};
 ghost use Rattle.sheet.specs.Returned.{verdict};
 ghost use Rattle.c_sessions.specs.Steps.{session_size, judge, start_call, advance_call, running_call};

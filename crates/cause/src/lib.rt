@@ -1,4 +1,6 @@
 // The causes that end a tip, and which of them comes first (SHEETS 4.6, 4.9).
+#![tactic(auto)]
+
 ghost use Rattle.std.specs.Prelude.{◌≡◌, true, false, ◌<◌};
 ghost use Rattle.sheet.specs.Accepted.{TrackOk, WallOk};
 ghost use Rattle.contact.specs.Answers.{TouchTimely};
@@ -13,7 +15,7 @@ use sheet::{Track, Wall};
 // What ends a tip, and when. The class is 0 for a track, 1 for a wall, 2 for the edge; id is the partner's, 0 for the edge,
 // who its index among the sheet's tracks or walls; `there` is when a track was there; side is the number of the side from which the tip
 // comes to it, 0 for the edge (SHEETS 4.14). All fields are words, so that a copy has no gaps to carry along.
-#[derive(Drop)]
+#[derive(Clone, Copy)]
 pub struct Cause {
     pub at: Fraction,
     pub class: u64,
@@ -165,7 +167,7 @@ pub fn with_track(c: Cause, b: Track, k: usize, t: Touch) -> Cause
 }
 
 // A part of the sheet: left ≤ x < right, low ≤ y < high.
-#[derive(Drop)]
+#[derive(Clone, Copy)]
 pub struct Region {
     pub left: u64,
     pub right: u64,

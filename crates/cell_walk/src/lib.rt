@@ -1,4 +1,6 @@
 // From one cell entry to the next (SHEETS 6.2 to 6.5): when a cell is entered and left, the next cell, and when a trace enters one named cell.
+#![tactic(auto)]
+
 ghost use Rattle.std.specs.Prelude.{◌≡◌, ◌≤◌, ◌<◌, ◌*◌, pos, nat_abs};
 ghost use Rattle.fraction.specs.Time.{as_time};
 ghost use Rattle.fraction.specs.Sizes.{greatest_num, greatest_den, Timely};
@@ -13,28 +15,28 @@ use fraction::{Fraction, Sign};
 use sheet::Track;
 
 // The time at which a part of time begins: with that time itself (late is 0), or just after it (late is 1). 1 / 0 is never. Within this file also of a tip's ages.
-#[derive(Drop)]
+#[derive(Clone, Copy)]
 pub struct Onset {
     pub at: Fraction,
     pub late: u64,
 }
 
 // A speed by its direction, with its size.
-#[derive(Drop)]
+#[derive(Clone, Copy)]
 pub enum Heading {
     Up(u64),
     Down(u64),
 }
 
 // A cell, and from when on a tip is in it.
-#[derive(Drop)]
+#[derive(Clone, Copy)]
 pub struct Crossing {
     pub when: Onset,
     pub cell: Cell,
 }
 
 // The time at which a trace enters a cell, if it has a point there.
-#[derive(Drop)]
+#[derive(Clone, Copy)]
 pub enum Arrival {
     At(Fraction),
     Never,

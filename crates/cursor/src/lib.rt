@@ -1,9 +1,11 @@
 // Where a session stands in its roll: the rows shown and the number still running (SHEETS 7). Of the roll its length is enough.
+#![tactic(auto)]
+
 ghost use Rattle.std.specs.Prelude.{◌≡◌, ◌-◌, min};
 ghost use Rattle.cursor.specs.Cursor.{Passes};
 
 // The next rows of a roll, `count` of them from row `from` on, and where a session stands behind them.
-#[derive(Drop)]
+#[derive(Clone, Copy)]
 pub struct NextRows {
     pub from: usize,
     pub count: usize,

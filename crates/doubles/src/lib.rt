@@ -1,4 +1,6 @@
 // Whole 64ths as doubles (SHEETS 12.8), and the bits of a double in a buffer.
+#![tactic(auto)]
+
 ghost use Rattle.std.specs.Prelude.{◌≡◌, not, ◌+◌, ◌≤◌, T, length};
 ghost use Rattle.std.specs.Float.Ieee.{is_nan};
 ghost use Rattle.std.proofs.lemmas.List.Edits.{sets};

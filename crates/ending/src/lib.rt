@@ -1,4 +1,6 @@
 // What both runs do when a tip ends: how its cause ends it (SHEETS 4.10), its row, and its end noted (SHEETS 5.1).
+#![tactic(auto)]
+
 ghost use Rattle.std.specs.Prelude.{◌≡◌, ◌+◌, ◌≤◌};
 ghost use Rattle.cause.specs.Cause.{Fine};
 ghost use Rattle.records.specs.Records.{Recorded, sheet_in};

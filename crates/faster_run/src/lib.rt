@@ -1,4 +1,6 @@
 // The roll by the faster of the two runs (SHEETS 10.1: both give the same): the plain run on few tracks, the grid run on more.
+#![tactic(auto)]
+
 ghost use Rattle.std.specs.Prelude.{◌*◌, ◌≤◌, length};
 ghost use Rattle.sheet.specs.HandedIn.{handed_in};
 ghost use Rattle.records.specs.Records.{Handed};

@@ -1,5 +1,6 @@
 // The interface: everything that callers may use, and nothing else. No function here has a `requires`; each contract stands where the
 // function does, and docs/CONTRACTS.md names the paragraph of docs/SHEETS.md that it serves.
+#![tactic(auto)]
 
 // The records of a sheet; reading, checking and writing them.
 pub use sheet::{Answer, Sheet, Track, Verdict, Wall};

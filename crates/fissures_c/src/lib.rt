@@ -1,5 +1,7 @@
 // The library for other languages: numbers and slices of them only. Each function but `fissure_name` answers 0, or the table's number of
 // the refusal, and stores the other number of its answer: the place or length of a refusal, or what an accepted call gives.
+#![tactic(auto)]
+
 ghost use Rattle.std.specs.Prelude.{◌≡◌};
 ghost use Rattle.sheet.specs.Scan.{verdict_of};
 ghost use Rattle.c_answers.specs.Answers.{told};

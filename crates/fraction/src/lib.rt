@@ -1,4 +1,6 @@
 // Exact arithmetic on fractions and signed numbers: the code. The laws for contracts and proofs are in proofs/.
+#![tactic(auto)]
+
 ghost use Rattle.std.specs.Prelude.{◌≡◌, ◌*◌, ◌≤◌, ◌<◌};
 ghost use Rattle.fraction.specs.Lowest.{Greatest, Reduced, lowest_of};
 ghost use Rattle.fraction.specs.Sizes.{greatest_part, greatest_age, Timely};
@@ -6,14 +8,14 @@ ghost use Rattle.fraction.specs.Time.{not_later, later_by, earlier_by};
 ghost use Rattle.fraction.specs.Sign.{sign_of};
 
 // The time num / den.
-#[derive(Drop)]
+#[derive(Clone, Copy)]
 pub struct Fraction {
     pub num: u64,
     pub den: u64,
 }
 
 // An integer by its sign, with its size.
-#[derive(Drop)]
+#[derive(Clone, Copy)]
 pub enum Sign {
     Minus(u64),
     Zero,

@@ -1,4 +1,6 @@
 // A tip enters a cell: it looks at the walls there, meets the tips that have been there, and gets its next event.
+#![tactic(auto)]
+
 ghost use Rattle.std.specs.Prelude.{◌+◌, ◌<◌, length};
 ghost use Rattle.records.specs.Records.{Recorded, sheet_in};
 ghost use Rattle.grid_state.specs.Sweep.{sweep_in, Swept};

@@ -1,4 +1,6 @@
 // A tip on its way into a cell meets the tips that have been there: each pair looks at each other once.
+#![tactic(auto)]
+
 ghost use Rattle.std.specs.Prelude.{[], ◌∷◌, ◌<◌, get_or};
 ghost use Rattle.event_queue.specs.Queue.{Queue, slots};
 ghost use Rattle.records.specs.Records.{Recorded, sheet_in};

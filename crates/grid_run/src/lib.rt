@@ -1,5 +1,7 @@
 // The grid run as callers reach it: records or bytes in, the roll's rows and the count of cells out (SHEETS 6.9). That it gives the plain
 // run's rows (SHEETS 10.1) is specs/Demand.antt.
+#![tactic(auto)]
+
 ghost use Rattle.sheet.specs.Listing.{listing};
 ghost use Rattle.sheet.specs.Returned.{accepted};
 ghost use Rattle.sheet.specs.Scan.{verdict_of, commands_of};
@@ -12,14 +14,14 @@ pub use cells::is_figure;
 use sheet::{Answer, GRID_FIGURE, OUTPUT_TOO_SHORT, Sheet, Verdict};
 
 // The numbers of rows and of cells entered, or the table's number with its place, length or figure.
-#[derive(Drop)]
+#[derive(Clone, Copy)]
 pub enum GridRolled {
     Rows { rows: usize, cells: u64 },
     Refused(u8, usize),
 }
 
 // What the plain run gives of one listing, and the grid run of another.
-#[derive(Drop)]
+#[derive(Clone, Copy)]
 pub struct Exchanged {
     pub plain: Answer,
     pub grid: GridRolled,

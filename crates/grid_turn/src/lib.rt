@@ -1,4 +1,6 @@
 // An event of the grid run: a cell entered, a track, a wall or the edge reached (SHEETS 6.8).
+#![tactic(auto)]
+
 ghost use Rattle.ending.specs.Ended.{EndingOf};
 ghost use Rattle.ending.specs.Finished.{RoomFor};
 ghost use Rattle.records.specs.Records.{Recorded, sheet_in};
@@ -13,7 +15,7 @@ use event_queue::{Event, Next};
 use rule::Ending;
 
 // How many rows are out after an event, or that there was none.
-#[derive(Drop)]
+#[derive(Clone, Copy)]
 pub enum Outcome {
     Rows(usize),
     Over,

@@ -1,5 +1,7 @@
 // The grid run: events leave a queue by exact time, and a tip looks only at the tips and walls of the cells that it enters
 // (SHEETS 6.8; the field's event-driven simulation with geometric hashing).
+#![tactic(auto)]
+
 ghost use Rattle.std.specs.Prelude.{◌*◌, ◌≤◌, length};
 ghost use Rattle.sheet.specs.HandedIn.{handed_in};
 ghost use Rattle.records.specs.Records.{Handed, Recorded, sheet_in};

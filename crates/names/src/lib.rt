@@ -1,4 +1,6 @@
 // The partner's name (SHEETS 8): a part of one of two name lists, chosen by the kind of ending.
+#![tactic(auto)]
+
 ghost use Rattle.std.specs.Prelude.{◌≡◌};
 ghost use Rattle.names.specs.NameList.{name_of};
 ghost use Rattle.names.specs.Partner.{partner_name, IsPart, IsNamed};
@@ -9,7 +11,7 @@ use byte_order::{get, get16};
 use rule::Ending;
 
 // Where a name lies in its list.
-#[derive(Drop)]
+#[derive(Clone, Copy)]
 enum Found {
     // Its first byte and its length.
     At(usize, usize),

@@ -8,7 +8,7 @@ use super::{Found, find};
 use rule::Ending;
 
 // A part of one of the two lists: its first byte and its length.
-#[derive(Drop)]
+#[derive(Clone, Copy)]
 pub enum Place {
     OfTracks(usize, usize),
     OfWalls(usize, usize),

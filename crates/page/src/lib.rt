@@ -1,5 +1,7 @@
 // Lines put one behind the other into a buffer, for the programs that print (SHEETS 9): each function gives the place where its text ends.
 // `answer` is all that is printed for a sheet.
+#![tactic(auto)]
+
 ghost use Rattle.std.specs.Prelude.{◌+◌, ◌*◌, ◌≤◌, ◌<◌, ◌≡◌, length, take};
 ghost use Rattle.sheet.specs.Listing.{listing};
 ghost use Rattle.sheet.specs.Scan.{verdict_of, commands_of};

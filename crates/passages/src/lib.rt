@@ -1,4 +1,6 @@
 // The ways of a roll's tips (SHEETS 12.5), in roll order: a way starts where its tip's track does and ends where its row does.
+#![tactic(auto)]
+
 ghost use Rattle.std.specs.Prelude.{◌≡◌, ◌*◌, ◌≤◌, length, take};
 ghost use Rattle.sheet.specs.HandedIn.{handed_in};
 ghost use Rattle.rule.specs.RowBytes.{row_width};

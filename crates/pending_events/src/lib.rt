@@ -1,4 +1,6 @@
 // The pending event of a running tip in the grid run: the sooner of its next cell entry and its best known cause.
+#![tactic(auto)]
+
 ghost use Rattle.std.specs.Prelude.{◌≡◌, ◌≤◌, ◌<◌};
 ghost use Rattle.sheet.specs.Accepted.{TrackOk};
 ghost use Rattle.cause.specs.Cause.{Fine};

@@ -1,4 +1,6 @@
 // The plain run as callers reach it: records or bytes in (SHEETS 2), the roll's rows out (SHEETS 3, 5).
+#![tactic(auto)]
+
 ghost use Rattle.sheet.specs.Listing.{listing};
 ghost use Rattle.sheet.specs.Returned.{accepted};
 ghost use Rattle.sheet.specs.Scan.{verdict_of, commands_of};

@@ -1,4 +1,6 @@
 // The plain run: chronological selection over all pairs of tips (SHEETS 4, 5; the field's brute-force simulation).
+#![tactic(auto)]
+
 ghost use Rattle.std.specs.Prelude.{◌≡◌, ◌+◌, ◌*◌, ◌≤◌, ◌<◌, length};
 ghost use Rattle.std.proofs.lemmas.List.Edits.{sets};
 ghost use Rattle.fraction.specs.Sizes.{Timely};
@@ -19,7 +21,7 @@ use fraction::Fraction;
 use sheet::Sheet;
 
 // What the next tip to end is found by: ended tips behind the running ones, then by time, then by id. All fields are words, so that a copy has no gaps to carry along.
-#[derive(Drop)]
+#[derive(Clone, Copy)]
 pub struct Key {
     pub ended: u64,
     pub at: Fraction,

@@ -1,4 +1,6 @@
 // Reads a sheet from standard input and prints its roll, or its refusal (SHEETS 9.1, 9.2): `page::answer` says what is printed.
+#![tactic(auto)]
+
 use libc::{STDIN_FILENO, STDOUT_FILENO};
 
 // The bytes that it reads decide every sheet (SHEETS 2.10): `reads_enough` in proofs/ReadsEnough.antt.

@@ -1,4 +1,6 @@
 // A step through the roll of an accepted sheet: the rows behind those shown, and where a session stands behind them (SHEETS 7.2).
+#![tactic(auto)]
+
 ghost use Rattle.std.specs.Prelude.{◌+◌, ◌*◌, ◌≤◌, length, take, drop};
 ghost use Rattle.sheet.specs.HandedIn.{handed_in};
 ghost use Rattle.records.specs.Records.{Handed};
@@ -10,7 +12,7 @@ ghost use Rattle.roll_steps.specs.Stepped.{GoesOn};
 use sheet::{Answer, OUTPUT_TOO_SHORT, Sheet};
 
 // The number of rows written, or 12, and where a session stands behind the rows.
-#[derive(Drop)]
+#[derive(Clone, Copy)]
 pub struct Stepped {
     pub shown: usize,
     pub running: usize,
@@ -29,7 +31,7 @@ fn put_rows(sheet: Sheet, from: usize, count: usize, out: &mut [u8])
     faster_run::roll(sheet, &mut whole);
     let start = row::WIDTH * from;
     let end = start + row::WIDTH * count;
-    bytes::copy(&whole[start..end], out);
+    out[..end - start].copy_from_slice(&whole[start..end]);
 }
 
 // Writes the next n rows, or those left if fewer.

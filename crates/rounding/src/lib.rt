@@ -1,4 +1,6 @@
 // The nearest whole number, at an exact half the even one (SHEETS 5.4).
+#![tactic(auto)]
+
 ghost use Rattle.std.specs.Prelude.{◌≤◌, ◌<◌};
 ghost use Rattle.fraction.specs.Whole.{nat};
 ghost use Rattle.rounding.specs.Nearest.{Nearest};

@@ -1,5 +1,7 @@
 // A stepping session (SHEETS 7): an accepted sheet and how many rows of its roll have been shown.
 // Anyone can make one with any contents, so every call judges its sheet again.
+#![tactic(auto)]
+
 ghost use Rattle.std.specs.Prelude.{◌≡◌, min};
 ghost use Rattle.sheet.specs.Returned.{verdict};
 ghost use Rattle.sheet.specs.Scan.{verdict_of};
@@ -10,21 +12,21 @@ ghost use Rattle.session.specs.Stepping.{begun, restart, Begins, Advances, runni
 
 use sheet::{Answer, OUTPUT_TOO_SHORT, Sheet, Verdict};
 
-#[derive(Drop)]
+#[derive(Clone, Copy)]
 pub struct Session {
     pub sheet: Sheet,
     pub shown: usize,
 }
 
 // The session handed back, and the number of rows written or the table's number with its place or length.
-#[derive(Drop)]
+#[derive(Clone, Copy)]
 pub struct Advanced {
     pub session: Session,
     pub answer: Answer,
 }
 
 // The session handed out, and whether its sheet is accepted or the table's number with its place.
-#[derive(Drop)]
+#[derive(Clone, Copy)]
 pub struct Begun {
     pub session: Session,
     pub answer: Verdict,
@@ -90,7 +92,7 @@ impl Session {
                 }
                 let start = row::WIDTH * from;
                 let end = start + needed;
-                bytes::copy(&roll[start..end], out);
+                out[..end - start].copy_from_slice(&roll[start..end]);
                 let shown = from + k;
                 let session = Session { sheet, shown };
                 Advanced {

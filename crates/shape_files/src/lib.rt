@@ -1,4 +1,6 @@
 // The files of a layer, from the tips' ways in 64ths (SHEETS 12).
+#![tactic(auto)]
+
 ghost use Rattle.std.specs.Prelude.{◌≡◌, ◌++◌, ◌+◌, ◌*◌, ◌≤◌, ◌<◌, length, take};
 ghost use Rattle.std.proofs.lemmas.List.Edits.{sets};
 ghost use Rattle.shapefile.specs.Extent.{extent};

@@ -1,4 +1,6 @@
 // Shapefile export (SHEETS 12): from records or bytes the four files of a sheet's roll, each by a call of its own.
+#![tactic(auto)]
+
 ghost use Rattle.sheet.specs.HandedIn.{handed_in, check_of};
 ghost use Rattle.sheet.specs.Listing.{listing};
 ghost use Rattle.sheet.specs.Returned.{accepted};

@@ -1,4 +1,6 @@
 // Shapes and boxes of doubles, and their records in a main file (SHEETS 12.3 to 12.6).
+#![tactic(auto)]
+
 ghost use Rattle.std.specs.Prelude.{◌≡◌, ◌++◌, ◌+◌, ◌≤◌, ◌<◌, length};
 ghost use Rattle.std.proofs.lemmas.List.Edits.{sets};
 ghost use Rattle.shapefile.specs.Layout.{record_bytes, point_bytes, point_content, line_content, big, little};
@@ -54,14 +56,14 @@ const END_WORDS: u64 = 10;
 const TRACE_WORDS: u64 = 40;
 
 // An end at a point (SHEETS 12.4), or a trace from one point to another (SHEETS 12.5).
-#[derive(Drop)]
+#[derive(Clone, Copy)]
 pub enum Shape {
     End(f64, f64),
     Trace(f64, f64, f64, f64),
 }
 
 // The box (SHEETS 12.6): least x, least y, greatest x, greatest y.
-#[derive(Drop)]
+#[derive(Clone, Copy)]
 pub struct Bounds {
     pub left: f64,
     pub low: f64,

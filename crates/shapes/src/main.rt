@@ -1,5 +1,7 @@
 // Reads a sheet from standard input and writes the files of its layers (SHEETS 12.9): BASE-traces.shp, BASE-traces.shx, BASE-ends.shp and
 // BASE-ends.shx, where BASE is the program's argument. Prints the refusal of a refused sheet, and then writes none.
+#![tactic(auto)]
+
 ghost use Rattle.std.specs.Prelude.{length};
 ghost use Rattle.shapes.specs.Started.{Starts, name_of, bytes_of};
 
@@ -22,8 +24,8 @@ fn name(base: &[u8], ending: &[u8], path: &mut [u8]) -> usize
     if path.len() - m < n {
         return 0;
     }
-    bytes::copy(base, path);
-    bytes::copy(ending, &mut path[n..]);
+    path[..n].copy_from_slice(base);
+    path[n..n + m].copy_from_slice(ending);
     n + m
 }
 

@@ -1,4 +1,6 @@
 // Reading a sheet's bytes (SHEETS 2, 3): the verdict on them, and the records of those that are accepted.
+#![tactic(auto)]
+
 ghost use Rattle.std.specs.Prelude.{◌≡◌, List, [], cond, ◌+◌, ◌≤◌, ◌<◌, eqb, length};
 ghost use Rattle.sheet.specs.declared.Command.{Command};
 ghost use Rattle.sheet.specs.declared.Item.TheVariants.{Add};
@@ -243,7 +245,7 @@ pub fn load(s: &[u8]) -> Sheet
 }
 
 // What reading gives; a refused sheet comes with no records.
-#[derive(Drop)]
+#[derive(Clone, Copy)]
 pub struct Reading {
     pub verdict: Verdict,
     pub sheet: Sheet,

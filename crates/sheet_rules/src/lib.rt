@@ -1,5 +1,7 @@
 // The table's tests on one command and on two (SHEETS 3.1, 3.5), exact: products in 64 bits.
 // `|` and `&` where both sides are cheap, an early return where the first test nearly always decides.
+#![tactic(auto)]
+
 ghost use Rattle.std.specs.Prelude.{◌≡◌, Bool, ◌&&◌, ◌||◌, cond, eqb, ltb, nat_abs, ◌*ℤ◌};
 ghost use Rattle.sheet.specs.Table as table;
 ghost use Rattle.sheet_rules.specs.Judged.{alone_of, clash_of, lesser};

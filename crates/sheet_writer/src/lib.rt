@@ -1,4 +1,6 @@
 // Records handed in: judged as the bytes that they stand for (SHEETS 2.8), and written in the ordered form (SHEETS 2.6).
+#![tactic(auto)]
+
 ghost use Rattle.std.specs.Prelude.{◌≡◌, length};
 ghost use Rattle.sheet.specs.Returned.{verdict};
 ghost use Rattle.sheet.specs.HandedIn.{listed_form, check_of};
@@ -9,7 +11,7 @@ use sheet::{Answer, OUTPUT_TOO_SHORT, Sheet, Verdict};
 use sheet_encoding::LONGEST_LISTED;
 
 // The verdict on records handed in, and the bytes of the sheet that they stand for: as many in every order.
-#[derive(Drop)]
+#[derive(Clone, Copy)]
 struct Judged {
     verdict: Verdict,
     bytes: usize,

@@ -1,4 +1,6 @@
 // The lines that programs `roll` and `bulletin` print (SHEETS 9). A line is put together in a buffer of its own, then copied to the caller's.
+#![tactic(auto)]
+
 ghost use Rattle.std.specs.Prelude.{[], ◌∷◌, ◌++◌, ◌+◌, ◌≤◌, length};
 ghost use Rattle.text.specs.Lines.{decimal, field, line_of, head_of, refused_of, still_of};
 ghost use Rattle.text.specs.Printed.{Prints};
@@ -11,7 +13,7 @@ use sheet::{Answer, OUTPUT_TOO_SHORT};
 const DRAFT: usize = 168;
 
 // A line while it is put together.
-#[derive(Drop)]
+#[derive(Clone, Copy)]
 struct Draft {
     bytes: [u8; DRAFT],
     length: usize,

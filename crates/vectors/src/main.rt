@@ -1,6 +1,8 @@
 // Answers framed questions from standard input, and is compared with the reference implementation's answers. A frame is its kind in one byte, the
 // length of the rest in two, low byte first, and the rest. Kind 0 is a sheet's bytes (sheets.rt), 1 records handed in (records.rt),
 // any other a name that is looked up (lookup.rt).
+#![tactic(auto)]
+
 mod answers;
 mod layers;
 mod lookup;

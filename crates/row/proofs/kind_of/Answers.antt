@@ -1,0 +1,20 @@
+-- The kind of each ending.
+use borrow.Author.Rules.{rules}
+use Rattle.rule.specs.RowBytes.{kind_of}
+use Rattle.row.proofs.kind_of.Goals as goal
+
+pub returns-in-ByTrack : goal.returns-in-ByTrack
+unfolding kind_of
+returns-in-ByTrack c = search rules
+
+pub returns-in-Meeting : goal.returns-in-Meeting
+unfolding kind_of
+returns-in-Meeting c = search rules
+
+pub returns-in-ByWall : goal.returns-in-ByWall
+unfolding kind_of
+returns-in-ByWall c = search rules
+
+pub returns-in-Edge : goal.returns-in-Edge
+unfolding kind_of
+returns-in-Edge c = search rules
