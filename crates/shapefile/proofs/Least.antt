@@ -19,6 +19,7 @@ kept e (q ∷ l) p h = kept (wider e q) l p (record { left = omega arith; right 
 
 within : (e : Extent) (l : List Point) (p : Point) → p ∈ l → Inside (widest e l) p
 unfolding widest
+within e [] p h = elim h [ ]
 within e (q ∷ l) p (Memᴰ.head h) =
     let u = ap (λ (r : Point). r.x) h in
     let v = ap (λ (r : Point). r.y) h in
@@ -27,6 +28,7 @@ within e (q ∷ l) p (Memᴰ.tail h) = within (wider e q) l p h
 
 pub inside : (l : List Point) (p : Point) → p ∈ l → Inside (extent l) p
 unfolding extent
+inside [] p h = elim h [ ]
 inside (q ∷ l) p (Memᴰ.head h) =
     let u = ap (λ (r : Point). r.x) h in
     let v = ap (λ (r : Point). r.y) h in
