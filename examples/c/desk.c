@@ -1,7 +1,7 @@
 /* Steps through a sheet's roll with the proved library, two rows at a time, and prints for each row its track, how it ended, with the
  * partner's name and the side, and after each step how many tracks still run. The names stand in this program.
  * From the repository's root:
- *   rt staticlib fissures_c
+ *   tools/build fissures_c
  *   cc -std=c99 -Ibindings examples/c/desk.c target/staticlib/libfissures_c.a -o target/desk-c
  *   target/desk-c < examples/E.sheet
  */

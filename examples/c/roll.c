@@ -1,6 +1,6 @@
 /* Reads a sheet from standard input and prints its roll, or its refusal, with the proved library: what program `roll` prints.
  * From the repository's root:
- *   rt staticlib fissures_c
+ *   tools/build fissures_c
  *   cc -std=c99 -Ibindings examples/c/roll.c target/staticlib/libfissures_c.a -o target/roll-c
  *   target/roll-c < examples/A.sheet
  */

@@ -1,7 +1,7 @@
 /* Reads a sheet from standard input and writes the shapefiles of its roll with the proved library, BASE-traces.shp, BASE-traces.shx,
  * BASE-ends.shp and BASE-ends.shx, each with a line, or prints its refusal: what program `shapes` does.
  * From the repository's root:
- *   rt staticlib fissures_c
+ *   tools/build fissures_c
  *   cc -std=c99 -Ibindings examples/c/shapes.c target/staticlib/libfissures_c.a -o target/shapes-c
  *   target/shapes-c target/A < examples/A.sheet
  */

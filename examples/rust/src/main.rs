@@ -1,6 +1,6 @@
 //! Reads a sheet from standard input and prints its roll, or its refusal, with the proved library:
 //! what program `roll` prints. From the repository's root:
-//!   rt staticlib fissures_c
+//!   tools/build fissures_c
 //!   cargo run --release --offline -p roll < examples/A.sheet
 
 use fissures::{GridRoll, Row, ENOUGH, LONGEST_ROLL};

@@ -1,0 +1,11 @@
+-- `sift_down` meets its contract.
+use Prim.Native.Nat.{◌-◌}
+use Rattle.event_queue.specs.Heap.{view}
+use Rattle.event_queue.proofs.Sifts.{DroppedTo}
+use Rattle.event_queue.proofs.sift_down.Given as goal
+
+abbrev pub invariant-loop-i : goal.invariant-loop-i
+invariant-loop-i l = DroppedTo (view l.initial.queue) l.queue l.i
+
+abbrev pub decreases-loop-i : goal.decreases-loop-i
+decreases-loop-i l = l.n - l.i

@@ -1,0 +1,8 @@
+-- Each side.
+use Rattle.shape_records.specs.Shapes.{around}
+use mathlib.Core.Path.{refl}
+use Rattle.shape_records.proofs.widened_to.Goals as goal
+
+pub returns : goal.returns
+unfolding around
+returns c = rw (c.lesser_of-left.ensures, c.lesser_of-low.ensures, c.greater_of-right.ensures, c.greater_of-high.ensures) refl

@@ -1,0 +1,11 @@
+-- Word, number, number.
+use Rattle.text.proofs.Lines.{refusal_done}
+use Rattle.text.proofs.refusal_line.Goals as goal
+
+pub returns : goal.returns
+returns c =
+    refusal_done c.args.number c.args.place
+    c.empty.ensures
+    c.word.ensures
+    c.put_field-left.ensures.0
+    c.put_field.ensures.0
