@@ -13,14 +13,14 @@ use Rattle.arrival.proofs.arrive.Goals as goal
 pub returns-in-Never : goal.returns-in-Never
 returns-in-Never c =
     let there : quot_of c.age_where.result ≡ arrive_on c.args.a c.args.b (zero_z c.args.a.vx) (age c.args.b (as_time c.args.end)) =
-        c.age_where.ensures.0 ∙ ap (λ (k : Time). arrive_on c.args.a c.args.b (zero_z c.args.a.vx) k) (ap as_time c.since.ensures ∙ earlier_is c.args.b.start c.args.end c.requires.2.den_pos) in
+    c.age_where.ensures.0 ∙ ap (λ (k : Time). arrive_on c.args.a c.args.b (zero_z c.args.a.vx) k) (ap as_time c.since.ensures ∙ earlier_is c.args.b.start c.args.end c.requires.2.den_pos) in
     let z = c.parallel.ensures.0 c.if-parallel.true in
     (arrival_never _ _ _ z there c.in-Never.is, tt, tt)
 
 pub returns-in-At : goal.returns-in-At
 returns-in-At c =
     let there : quot_of c.age_where.result ≡ arrive_on c.args.a c.args.b (zero_z c.args.a.vx) (age c.args.b (as_time c.args.end)) =
-        c.age_where.ensures.0 ∙ ap (λ (k : Time). arrive_on c.args.a c.args.b (zero_z c.args.a.vx) k) (ap as_time c.since.ensures ∙ earlier_is c.args.b.start c.args.end c.requires.2.den_pos) in
+    c.age_where.ensures.0 ∙ ap (λ (k : Time). arrive_on c.args.a c.args.b (zero_z c.args.a.vx) k) (ap as_time c.since.ensures ∙ earlier_is c.args.b.start c.args.end c.requires.2.den_pos) in
     let z = c.parallel.ensures.0 c.if-parallel.true in
     let e = c.in-At.is in
     let y = subst MomentYoung e c.age_where.ensures.1 in

@@ -21,21 +21,19 @@ loop-i-init c = rw (so_far_none c.args.layer c.args.passages) (omega arith, none
 
 pub loop-i-preserved : goal.loop-i-preserved
 loop-i-preserved c =
-    let l = c.loop-i in
     let s = c.shape_of-s.ensures in
     let k = c.args.layer in
     let ps = c.args.passages in
     let e : length ps ≡ 256 = search rules in
-    let f = figure k (get_or ps l.i no_passage) in
-    let m = so_far k ps l.i in
-    let w = widest_narrow inverted m (record { left = lit< tt; low = lit< tt; right = lit< tt; high = lit< tt }) l.invariant.1 in
-    let q = rw (s.0, l.invariant.2, widen_is (widest inverted m) f w s.1) at c.widened-b.ensures in
-    rw (so_far_more k ps l.i (omega arith)) (omega arith, narrows_append m l.invariant.1 (narrow_points f s.1), q ∙ ap bounds_of (sym (widest-append inverted m (points f))))
+    let f = figure k (get_or ps c.loop-i.i no_passage) in
+    let m = so_far k ps c.loop-i.i in
+    let w = widest_narrow inverted m (record { left = lit< tt; low = lit< tt; right = lit< tt; high = lit< tt }) c.loop-i.invariant.1 in
+    let q = rw (s.0, c.loop-i.invariant.2, widen_is (widest inverted m) f w s.1) at c.widened-b.ensures in
+    rw (so_far_more k ps c.loop-i.i (omega arith)) (omega arith, narrows_append m c.loop-i.invariant.1 (narrow_points f s.1), q ∙ ap bounds_of (sym (widest-append inverted m (points f))))
 
 pub returns : goal.returns
 returns c =
-    let l = c.loop-i in
-    let i : l.i ≡ c.args.n = omega arith in
-    let h = rw i at l.invariant.1 in
-    let b = rw i at l.invariant.2 in
+    let i : c.loop-i.i ≡ c.args.n = omega arith in
+    let h = rw i at c.loop-i.invariant.1 in
+    let b = rw i at c.loop-i.invariant.2 in
     (rw b at c.closed_bounds.ensures ∙ closed_is _ h, extent_narrow _ h)

@@ -15,8 +15,8 @@ pub returns-then-out-total : goal.returns-then-out-total
 returns-then-out-total c =
     let a = c.args in
     let f = figures a.layer (take a.n a.passages) in
-    let e = c.type_size.ensures.0 in
-    let g : length (main_file (type_of a.layer) f) ≡ 100 + c.type_size.result = omega (arith, main_length (type_of a.layer) f) in
+    let e = c.size_of-size.ensures.0 in
+    let g : length (main_file (type_of a.layer) f) ≡ 100 + c.size_of-size.result = omega (arith, main_length (type_of a.layer) f) in
     short_so (main_file (type_of a.layer) f) a.out.now g c.if-out-total.true
 
 pub put_header-requires : goal.put_header-requires
@@ -29,8 +29,8 @@ returns c =
     let a = c.args in
     let f = figures a.layer (take a.n a.passages) in
     let t = type_of a.layer in
-    let size = c.type_size.result in
-    let e : size ≡ length (records_from 1 f) = c.type_size.ensures.0 in
+    let size = c.size_of-size.result in
+    let e : size ≡ length (records_from 1 f) = c.size_of-size.ensures.0 in
     let g : length (main_file t f) ≡ 100 + size = omega (arith, main_length t f) in
     let w : (100 + size) / 2 ≡ 50 + length (records_from 1 f) / 2 = omega arith in
     let b = c.bounds_of-b.ensures in

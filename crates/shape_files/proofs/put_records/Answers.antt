@@ -13,33 +13,29 @@ use Rattle.shape_files.proofs.put_records.Goals as goal
 
 pub put_record-at-requires : goal.put_record-at-requires
 put_record-at-requires c =
-    let l = c.loop-i in
     let s = c.shape_of-s.ensures in
     let k = c.args.layer in
     let ps = c.args.passages in
     let e : length ps ≡ 256 = search rules in
-    let f = figure k (get_or ps l.i no_passage) in
-    let g = rest-length k ps c.args.n (omega arith) l.i (omega arith) in
+    let f = figure k (get_or ps c.loop-i.i no_passage) in
+    let g = rest-length k ps c.args.n (omega arith) c.loop-i.i (omega arith) in
     let t : content_of c.shape_of-s.result ≡ content f = ap content_of s.0 ∙ content_is f s.1 in
     (rw t (omega arith), rw s.0 (figure_sound f s.1))
 
 pub loop-i-preserved : goal.loop-i-preserved
 loop-i-preserved c =
-    let l = c.loop-i in
     let s = c.shape_of-s.ensures in
     let k = c.args.layer in
     let ps = c.args.passages in
     let e : length ps ≡ 256 = search rules in
-    let f = figure k (get_or ps l.i no_passage) in
-    let g = rest-length k ps c.args.n (omega arith) l.i (omega arith) in
+    let f = figure k (get_or ps c.loop-i.i no_passage) in
+    let g = rest-length k ps c.args.n (omega arith) c.loop-i.i (omega arith) in
     let t : content_of c.shape_of-s.result ≡ content f = ap content_of s.0 ∙ content_is f s.1 in
-    let p = c.put_record-at in
-    let q = rw t at p.ensures.0 in
-    let r = rw t at p.ensures.1 in
-    (omega arith, omega (arith, p.auto.0), omega arith, rw (r, q, rest_more k ps c.args.n (omega arith) l.i (omega arith) l.out l.at) l.invariant.3)
+    let q = rw t at c.put_record-at.ensures.0 in
+    let r = rw t at c.put_record-at.ensures.1 in
+    (omega arith, omega (arith, c.put_record-at.auto.out), omega arith, rw (r, q, rest_more k ps c.args.n (omega arith) c.loop-i.i (omega arith) c.loop-i.out c.loop-i.at) c.loop-i.invariant.3)
 
 pub returns : goal.returns
 returns c =
-    let l = c.loop-i in
-    let i : l.i ≡ c.args.n = omega arith in
-    rw (i, rest_none c.args.layer c.args.passages c.args.n) at l.invariant.3
+    let i : c.loop-i.i ≡ c.args.n = omega arith in
+    rw (i, rest_none c.args.layer c.args.passages c.args.n) at c.loop-i.invariant.3

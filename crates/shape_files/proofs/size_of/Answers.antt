@@ -13,20 +13,18 @@ use Rattle.shape_files.proofs.size_of.Goals as goal
 
 pub loop-i-preserved : goal.loop-i-preserved
 loop-i-preserved c =
-    let l = c.loop-i in
     let s = c.shape_of-s.ensures in
     let k = c.args.layer in
     let ps = c.args.passages in
     let e : length ps ≡ 256 = search rules in
-    let f = figure k (get_or ps l.i no_passage) in
-    let g = rest-length k ps c.args.n (omega arith) l.i (omega arith) in
+    let f = figure k (get_or ps c.loop-i.i no_passage) in
+    let g = rest-length k ps c.args.n (omega arith) c.loop-i.i (omega arith) in
     let t : content_of c.shape_of-s.result ≡ content f = ap content_of s.0 ∙ content_is f s.1 in
     let q = rw t at c.record_size-total.ensures.0 in
     (omega arith, omega arith, omega arith)
 
 pub returns : goal.returns
 returns c =
-    let l = c.loop-i in
-    let i : l.i ≡ c.args.n = omega arith in
-    let p = rw (i, rest_none c.args.layer c.args.passages c.args.n) at l.invariant.2 in
+    let i : c.loop-i.i ≡ c.args.n = omega arith in
+    let p = rw (i, rest_none c.args.layer c.args.passages c.args.n) at c.loop-i.invariant.2 in
     (omega arith, omega arith)
