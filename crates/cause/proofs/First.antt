@@ -1,4 +1,4 @@
--- Which of two causes comes first. Main theorems: `not_later` and `later` (the code's test of two times), `first_of` (the first of two comes before both).
+-- Which of two causes comes first. Main theorems: `not_later_lem` and `later` (the code's test of two times), `first_of` (the first of two comes before both).
 use mathlib.Core.Bool.{Bool, true, false, true≢false}
 use mathlib.Core.Logic.{inl, inr}
 use mathlib.Core.Path.{◌≡◌, refl, sym, subst}
@@ -21,8 +21,8 @@ use Rattle.cause.specs.Cause.{cand_of, Stands, Comes, in_time, in_class, in_id, 
 use Rattle.cause.specs.Offer.{tip_cause, Taken}
 
 module _ {a b : Fraction} (p : Timely a) (q : Timely b) where
-  pub not_later : not_later a b ≡ true → as_time a ≤ᵗ as_time b
-  not_later h = told_not_later a b p.den_pos q.den_pos h
+  pub not_later_lem : not_later a b ≡ true → as_time a ≤ᵗ as_time b
+  not_later_lem h = told_not_later a b p.den_pos q.den_pos h
 
   pub later : not_later a b ≡ false → as_time b <ᵗ as_time a
   later h = told-later a b p.den_pos q.den_pos h

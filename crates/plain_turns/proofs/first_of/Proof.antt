@@ -3,7 +3,7 @@ use mathlib.Core.Logic.{inl, inr}
 use mathlib.Core.Path.{refl, sym, ◌∙◌}
 use native.Mathlib.Omega.{arith}
 use Rattle.fraction.specs.Order.{≈ᵗ_of}
-use Rattle.cause.proofs.First.{not_later, later}
+use Rattle.cause.proofs.First.{not_later_lem, later}
 use Rattle.plain_turns.specs.Key.{running, earlier, together}
 use borrow.Author.Rules.{rules}
 use Rattle.plain_turns.proofs.first_of.Statement.{statement}
@@ -22,10 +22,10 @@ not-later-requires-2 : tie.Need-not-later-requires-2
 not-later-requires-2 c κs = search rules
 
 returns-3 : tie.Need-returns-3
-returns-3 c = let p = c.before.before.before.before.before.before.before.before.before.before.before.before.before.before.before.requires in inl (refl, together (omega (arith, c.before.before.before.before.before.before.before.before.before.before.before.before.if1.false, c.before.before.before.before.before.before.before.before.before.if2.false)) (≈ᵗ_of (not_later p.0 p.1 (sym c.before.before.before.before.before.before.not_later.ensures ∙ c.before.before.before.before.before.if3.true)) (not_later p.1 p.0 (sym c.before.before.before.before.not-later2.ensures ∙ c.before.before.before.if4.true))) c.if5.true)
+returns-3 c = let p = c.before.before.before.before.before.before.before.before.before.before.before.before.before.before.before.requires in inl (refl, together (omega (arith, c.before.before.before.before.before.before.before.before.before.before.before.before.if1.false, c.before.before.before.before.before.before.before.before.before.if2.false)) (≈ᵗ_of (not_later_lem p.0 p.1 (sym c.before.before.before.before.before.before.not_later.ensures ∙ c.before.before.before.before.before.if3.true)) (not_later_lem p.1 p.0 (sym c.before.before.before.before.not-later2.ensures ∙ c.before.before.before.if4.true))) c.if5.true)
 
 returns-4 : tie.Need-returns-4
-returns-4 c = let p = c.before.before.before.before.before.before.before.before.before.before.before.before.before.before.before.requires in inr (refl, together (omega (arith, c.before.before.before.before.before.before.before.before.before.before.before.before.if1.false, c.before.before.before.before.before.before.before.before.before.if2.false)) (≈ᵗ_of (not_later p.1 p.0 (sym c.before.before.before.before.not-later2.ensures ∙ c.before.before.before.if4.true)) (not_later p.0 p.1 (sym c.before.before.before.before.before.before.not_later.ensures ∙ c.before.before.before.before.before.if3.true))) (omega (arith, c.if5.false)))
+returns-4 c = let p = c.before.before.before.before.before.before.before.before.before.before.before.before.before.before.before.requires in inr (refl, together (omega (arith, c.before.before.before.before.before.before.before.before.before.before.before.before.if1.false, c.before.before.before.before.before.before.before.before.before.if2.false)) (≈ᵗ_of (not_later_lem p.1 p.0 (sym c.before.before.before.before.not-later2.ensures ∙ c.before.before.before.if4.true)) (not_later_lem p.0 p.1 (sym c.before.before.before.before.before.before.not_later.ensures ∙ c.before.before.before.before.before.if3.true))) (omega (arith, c.if5.false)))
 
 returns-5 : tie.Need-returns-5
 returns-5 c = let p = c.before.before.before.before.before.before.before.before.before.before.before.before.requires in inl (refl, earlier (omega (arith, c.before.before.before.before.before.before.before.before.before.if1.false, c.before.before.before.before.before.before.if2.false)) (later p.1 p.0 (sym c.before.not-later2.ensures ∙ c.if4.false)))
