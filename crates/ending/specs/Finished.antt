@@ -18,7 +18,7 @@ RoomFor S out = row_width * length S.tracks ≤ length out
 
 -- the tip at i is on the sheet when it ends, and there is a row to come after k
 pub record MayEnd (S : Listing) (i k : ℕ) (ts : List Tip) : Type 0 where
-  pub tip_in : i < length S.tracks
+  pub tip_within : i < length S.tracks
   pub endable : Endable (tip_at S i) (tip_in ts i).best
   pub more : k < length S.tracks
 

@@ -35,13 +35,13 @@ module _ {S : Listing} {F : Frame} {side i : ℕ} {w : Crowd} (z : Busy S F side
   -- the tip at j may look at the tip at q
   pub may_look : (j q : ℕ) → j < F.begun → q < F.begun → MayLook S w.tips j q
   may_look j q h k =
-      record { tip_in = (begun_place z j h).0; other_in = (begun_place z q k).0; fine = z.looked.fine j h; closed = λ x. (z.looked.ends.ended q (begun_place z q k).0 x).closed }
+      record { tip_within = (begun_place z j h).0; other_in = (begun_place z q k).0; fine = z.looked.fine j h; closed = λ x. (z.looked.ends.ended q (begun_place z q k).0 x).closed }
 
   -- the tip at j has a pending event
   pub may_enter : (j : ℕ) → Runs F.begun w.tips j → j ≢ i → MayEnter S side w.tips j
   may_enter j r n =
       record {
-        tip_in = (begun_place z j r.0).0;
+        tip_within = (begun_place z j r.0).0;
         in_grid = z.in_grid j r.0 n;
         fine = z.looked.fine j r.0;
         id_in = (z.looked.best j r).walls.stands.id_in;

@@ -216,7 +216,7 @@ module _ {S : Listing} {g k : ℕ} {w : Sweep} (go : Going S g k w) {r : ℕ} {e
 
   -- what `look_again` asks
   pub again_looks : MayLookOn S w.crowd.tips r (tip_in w.crowd.tips r).base
-  again_looks = record { tip_in = event_runs.0; stands = (st.looked.base r event_runs).walls.stands; closed = λ j h x. (st.looked.ends.ended j h x).closed }
+  again_looks = record { tip_within = event_runs.0; stands = (st.looked.base r event_runs).walls.stands; closed = λ j h x. (st.looked.ends.ended j h x).closed }
 
   module _ {ts' : List Tip} (a : LookedAgain S r (get_or w.crowd.marks r []) w.crowd.tips ts') where
     abbrev new : Tip
@@ -252,7 +252,7 @@ module _ {S : Listing} {g k : ℕ} {w : Sweep} (go : Going S g k w) {r : ℕ} {e
     pub again_enters : MayEnter S (side g) ts' r
     again_enters =
         record {
-          tip_in = event_runs.0;
+          tip_within = event_runs.0;
           in_grid = placed_again.in_grid r event_runs.0 (none_out few r event_runs.0);
           fine = looked_again.fine r event_runs.0;
           id_in = (looked_again.best r runs_again).walls.stands.id_in;

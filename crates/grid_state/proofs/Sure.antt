@@ -30,7 +30,7 @@ module _ {S : Listing} (acc : Accepted S) {done : List Row} {side : ℕ} {es : L
   pub may_tell : MayTell ts j
   may_tell =
       record {
-        tip_in = omega (arith, r.0, acc.few_tracks);
+        tip_within = omega (arith, r.0, acc.few_tracks);
         fine = lk.fine j r.0;
         known = λ _ z. omega (arith, stands.known z, acc.few_tracks);
         times = λ _ z x. lk.fine (tip_in ts j).best.who (stands.known z);

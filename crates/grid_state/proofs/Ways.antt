@@ -94,7 +94,7 @@ module _ {S : Listing} {side b i : ℕ} {k : Cell} {done : List Row} {es : List 
       let base = y.state.looked.base i y.runs in
       let best = (y.state.looked.best i y.runs).walls in
       record {
-        tip_in = way_place.0;
+        tip_within = way_place.0;
         fine = y.state.looked.fine i y.runs.0;
         base = base.walls.stands;
         bare = λ z.
@@ -185,7 +185,7 @@ module _ {S : Listing} {side b i : ℕ} {k : Cell} {done : List Row} {es : List 
       way_back {ts'} e =
           let own : tip_in ts' i ≡ moved = ap (λ (z : List Tip). tip_in z i) e ∙ tip_same met.tips i moved room_met in
           record {
-            tip_in = way_place.0;
+            tip_within = way_place.0;
             in_grid = subst (λ (t : Tip). InGrid side t.cell) (sym own) y.in_grid;
             fine = subst (λ (t : Tip). Fine t.best) (sym own) (has_met.busy.looked.fine i y.runs.0);
             id_in = subst (λ (t : Tip). t.best.id ≤ 65535) (sym own) (has_met.busy.looked.best i has_met.busy.runs).walls.stands.id_in;

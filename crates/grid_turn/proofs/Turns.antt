@@ -109,7 +109,7 @@ module _ {S : Listing} {g k : ℕ} {t q m ms : List ℕ} (h : Swept (Going S g k
 
       module _ (late : (entry_in S (side g) (tips_in t) i).key.late ≡ 1) (counts : Counts (tips_in t) (tip_in (tips_in t) i).best) where
         may_end : MayEnd S i k (tips_in t)
-        may_end = record { tip_in = (event_here h.holds first).0; endable = ended_endable h.holds first late counts; more = ended_room h.holds first late counts }
+        may_end = record { tip_within = (event_here h.holds first).0; endable = ended_endable h.holds first late counts; more = ended_room h.holds first late counts }
 
         module _ {ending : Ending} (kind : EndingOf (tip_in (tips_in t) i).best ending) where
           is_next : row_at (tip_at S i) (end_of (tip_in (tips_in t) i)) ending (side_from (tip_in (tips_in t) i).best.side) ≡ next_row S k
@@ -153,7 +153,7 @@ module _ {S : Listing} {g k : ℕ} {t q m ms : List ℕ} (h : Swept (Going S g k
         of_track : OfTrack i x (tips_in t)
         of_track =
             let z = track_event h.holds first c in
-            record { tip_in = (event_here h.holds first).1; fine = (event_stands h.holds first).fine; a_track = z.1; named = z.2 }
+            record { tip_within = (event_here h.holds first).1; fine = (event_stands h.holds first).fine; a_track = z.1; named = z.2 }
 
         pub reach_asks : Crowded (MayReach S (4096 / g) i x k) t q₁ m
         unfolding side

@@ -16,7 +16,7 @@ use Rattle.grid_state.specs.Sweep.{Crowd}
 
 -- its cause is the track of this id
 pub record OfTrack (i id : ℕ) (ts : List Tip) : Type 0 where
-  pub tip_in : i < 256
+  pub tip_within : i < 256
   pub fine : Fine (tip_in ts i).best
   pub a_track : (tip_in ts i).best.class ≡ 0
   pub named : (tip_in ts i).best.id ≡ id

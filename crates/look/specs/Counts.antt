@@ -14,7 +14,7 @@ pub data Counts (ts : List Tip) (c : Cause) : Type 0 where
 
 -- what is read to tell whether the cause of the tip at i counts, while it runs
 pub record MayTell (ts : List Tip) (i : ℕ) : Type 0 where
-  pub tip_in : i < 256
+  pub tip_within : i < 256
   pub fine : Fine (tip_in ts i).best
   pub known : (tip_in ts i).ended ≡ 0 → (tip_in ts i).best.class ≡ 0 → (tip_in ts i).best.who < 256
   pub times : (tip_in ts i).ended ≡ 0 → (tip_in ts i).best.class ≡ 0 → ((tip_in ts (tip_in ts i).best.who).ended ≡ 0 → ⊥) → Fine (tip_in ts (tip_in ts i).best.who).best

@@ -15,7 +15,7 @@ Flagged known j = get_or known j 0 ≢ 0
 
 -- the tip at i may look, from the cause c on; a tip that has ended has the time of a row
 pub record MayLookOn (S : Listing) (ts : List Tip) (i : ℕ) (c : Cause) : Type 0 where
-  pub tip_in : i < length S.tracks
+  pub tip_within : i < length S.tracks
   pub stands : Stands S (tip_at S i) c
   pub closed : (k : ℕ) → k < length S.tracks → ((tip_in ts k).ended ≡ 0 → ⊥) → Closed (tip_at S k) (tip_in ts k).best.at
 

@@ -88,7 +88,7 @@ module _ {S : Listing} (acc : Accepted S) {known : List ℕ} (all : AllKnown kno
       (at_put (λ (k : ℕ) (x : Tip). k < i → Seen S [] k x.best) ts i based_tip room (b.seen i) (λ k n. b.seen k))
 
   pub begin_look : MayLookOn S t i (tip_in t i).base
-  begin_look = record { tip_in = l; stands = (t_based i (omega arith)).foremost.stands; closed = λ k h x. absurd (x (t_none k)) }
+  begin_look = record { tip_within = l; stands = (t_based i (omega arith)).foremost.stands; closed = λ k h x. absurd (x (t_none k)) }
 
   pub begin_next : {u : List Tip} → LookedAgain S i known t u → Begun S u (i + 1)
   begin_next {u} a = subst (λ (z : List Tip). Begun S z (i + 1)) (sym a.stored) begun

@@ -34,12 +34,12 @@ module _ {S : Listing} {ts : List Tip} (h : Held S ts) where
 
   module _ (i : ℕ) (l : i < length S.tracks) where
     pub held_look : MayLookOn S ts i (tip_in ts i).base
-    held_look = record { tip_in = l; stands = (h.based i l).foremost.stands; closed = λ k m x. (h.ends.ended k m x).closed }
+    held_look = record { tip_within = l; stands = (h.based i l).foremost.stands; closed = λ k m x. (h.ends.ended k m x).closed }
 
     pub held_tell : Accepted S → MayTell ts i
     held_tell acc =
         record {
-          tip_in = omega (arith, acc.few_tracks);
+          tip_within = omega (arith, acc.few_tracks);
           fine = h.fine i l;
           known = λ r e. let k = (h.stands i l r).known e in omega (arith, acc.few_tracks);
           times = λ r e x. h.fine (tip_in ts i).best.who ((h.stands i l r).known e);

@@ -107,7 +107,7 @@ module _ {S : Listing} (acc : Accepted S) {ts new : List Tip} {k i : ℕ} (st : 
   pub turn_end : MayEnd S i k new
   turn_end =
       record {
-        tip_in = p.place;
+        tip_within = p.place;
         endable = record {
           ok = acc.tracks_ok (tip_at S i) (on i p.place);
           fine = stands.fine;

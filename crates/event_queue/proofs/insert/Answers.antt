@@ -5,7 +5,7 @@ use mathlib.Core.Path.{refl}
 use Rattle.event_queue.proofs.insert.Goals as goal
 
 pub stand-requires : goal.stand-requires
-stand-requires c = (search rules, insert_room c.args.queue.now c.requires.0 c.args.tip c.args.entry c.requires.2 c.requires.1, c.requires.1.tip_in)
+stand-requires c = (search rules, insert_room c.args.queue.now c.requires.0 c.args.tip c.args.entry c.requires.2 c.requires.1, c.requires.1.tip_within)
 
 pub sift_up-requires : goal.sift_up-requires
 sift_up-requires c = (

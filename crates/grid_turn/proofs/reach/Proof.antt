@@ -12,12 +12,12 @@ stale-requires : tie.Need-stale-requires
 stale-requires c κs = let h = c.before.before.before.before.before.before.requires.1 in (h.tips_room, h.holds.tell)
 
 row-of-requires : tie.Need-row-of-requires
-row-of-requires c κs = let h = c.before.before.before.before.before.before.before.before.requires.1 in (h.marks_room, h.holds.of_track.tip_in)
+row-of-requires c κs = let h = c.before.before.before.before.before.before.before.before.requires.1 in (h.marks_room, h.holds.of_track.tip_within)
 
 look-again-requires : tie.Need-look-again-requires
 look-again-requires c κs = let o = c.before.before.before.before.before.before.before.before.before.before in
     let h = o.requires.1 in
-    (o.requires.0, h.tips_room, ap length c.before.row_of.ensures ∙ row_long o.args.marks.now o.args.i h.holds.of_track.tip_in, h.holds.look)
+    (o.requires.0, h.tips_room, ap length c.before.row_of.ensures ∙ row_long o.args.marks.now o.args.i h.holds.of_track.tip_within, h.holds.look)
 
 schedule-requires : tie.Need-schedule-requires
 schedule-requires c κs = let h = c.before.before.before.before.before.before.before.before.before.before.before.before.before.before.before.requires.1 in
