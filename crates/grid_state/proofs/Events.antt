@@ -40,7 +40,7 @@ use Rattle.event_queue.specs.Queue.{Slots, First}
 use Rattle.pending_events.specs.Pending.{event_of}
 use Rattle.tips.specs.Tips.{Tip, tip_in}
 use Rattle.look.specs.Ends.{end_of}
-use Rattle.look.specs.Counts.{Counts, no_track, MayTell, stale}
+use Rattle.look.specs.Counts.{Counts, no_track as is_no_track, MayTell, stale}
 use Rattle.look.specs.Tracks.{MayLookOn, LookedAgain}
 use Rattle.pair_marks.specs.Marks.{Marked}
 use Rattle.grid_steps.specs.Steps.{InGrid, MayEnter, entry_in}
@@ -305,10 +305,10 @@ module _ {S : Listing} {g k : ℕ} {w : Sweep} (go : Going S g k w) {r : ℕ} {e
 
   -- a wall and the edge always count
   pub wall_counts : {x : ℕ} → e ≡ event.Wall x → Counts w.crowd.tips (tip_in w.crowd.tips r).best
-  wall_counts c = no_track (λ z. omega (arith, (wall_event c).1))
+  wall_counts c = is_no_track (λ z. omega (arith, (wall_event c).1))
 
   pub edge_counts : e ≡ event.Edge → Counts w.crowd.tips (tip_in w.crowd.tips r).best
-  edge_counts c = no_track (edge_event c).1
+  edge_counts c = is_no_track (edge_event c).1
 
   module _ (late : (entry_in S (side g) w.crowd.tips r).key.late ≡ 1) (counts : Counts w.crowd.tips (tip_in w.crowd.tips r).best) where
     live : LiveCause S done cause
