@@ -2,10 +2,10 @@
 use mathlib.Core.Path.{◌≡◌, sym, ap, ◌∙◌, subst}
 use mathlib.Core.Logic.{◌⊎◌, inl, inr}
 use mathlib.Core.List.Memᴰ
-use mathlib.Core.List.{List, [], ◌∷◌, ◌++◌, map}
+use mathlib.Core.List.{List, [], ◌∷◌, ◌++◌}
 use Prim.Native.Nat.{ℕ, ◌+◌, ◌-◌, ◌≤◌}
 use native.Mathlib.Omega.{arith}
-use borrow.Author.Rules.{sfits_of}
+use borrow.Author.Rules.{sfits_of, rules}
 use lib.Dec.{lit<}
 use lib.ListN.{length, take, replicate, length-append, length-replicate, length-take}
 use mir.Val.{Val}
@@ -25,16 +25,18 @@ use Rattle.sheet.specs.Listing.{◌∈◌, listing}
 use Rattle.sheet.specs.Returned.{Returned, accepted}
 use Rattle.sheet.specs.Scan.{verdict_of, commands_of}
 use Rattle.sheet.specs.contracts.Sheet.{the_type}
-use Rattle.sheet.proofs.Lists.{take_in, sized}
+use Rattle.sheet.specs.contracts.Track as track
+use Rattle.sheet.specs.contracts.Wall as wall
+use Rattle.sheet.proofs.Lists.{take_in}
 use Rattle.sheet.proofs.RoundTrip.{all_fit, accepted_exactly, accepted_records, listed, handed_back}
 use Rattle.sheet_reader.specs.Reading.{if_accepted, records_of}
 use Rattle.records.specs.Records.{Handed}
 
 -- what the type of an array's elements says of each
-each_in : {A D : Type 0} (f : A → D) (own : D → List Val → Fml) (P : A → Type 0) → ((a : A) (u : Val) → shadow (own (f a) (u ∷ [])) → P a) → (l : List A) (us : List Val) → shadow (each D own (map f l) us) → (a : A) → a ∈ l → P a
-each_in f own P h [] us s a m = absurd (Memᴰ.not-nil m)
-each_in f own P h (x ∷ l) [] s a m = absurd s
-each_in f own P h (x ∷ l) (u ∷ us) s a m = go (Memᴰ.cases_cons m) (each_in f own P h l us s.1 a)
+each_in : {A : Type 0} (own : A → List Val → Fml) (P : A → Type 0) → ((a : A) (u : Val) → shadow (own a (u ∷ [])) → P a) → (l : List A) (us : List Val) → shadow (each A own l us) → (a : A) → a ∈ l → P a
+each_in own P h [] us s a m = absurd (Memᴰ.not-nil m)
+each_in own P h (x ∷ l) [] s a m = absurd s
+each_in own P h (x ∷ l) (u ∷ us) s a m = go (Memᴰ.cases_cons m) (each_in own P h l us s.1 a)
   where
     go : (a ≡ x) ⊎ (a ∈ l) → (a ∈ l → P a) → P a
     go (inl e) rec = subst P (sym e) (h x u s.0)
@@ -80,17 +82,17 @@ ready {s} t w f g ok =
 -- as their type says: 256 places for each kind, and each field within its width
 module _ (s : Sheet) {vs : List Val} (typed : Is (row the_type) s vs) where
   pub places : (length s.tracks ≡ 256) × (length s.walls ≡ 256)
-  places = (sized _ s.tracks typed.1.1.0.1.0.1, sized _ s.walls typed.1.1.1.1.0.1.0.1)
+  places = (search (rules, typed), search (rules, typed))
 
   pub handed_ready : check_of s ≡ accepted → Handed s
   handed_ready =
       let t = typed.1.1.0 in
       let w = typed.1.1.1.1.0 in
       ready places.0 places.1
-      (each_in _ _ TrackFits
+      (each_in (row track.the_type).own_val TrackFits
       (λ a u z. record { id = record { fits = z.1.1.0.1 }; x = record { fits = z.1.1.1.0.1 }; y = record { fits = z.1.1.1.1.0.1 }; vx = sfits_of z.1.1.1.1.1.0.1; vy = sfits_of z.1.1.1.1.1.1.0.1; start = record { fits = z.1.1.1.1.1.1.1.0.1 } })
       s.tracks t.0 t.1.1)
-      (each_in _ _ WallFits
+      (each_in (row wall.the_type).own_val WallFits
       (λ a u z. record { id = record { fits = z.1.1.0.1 }; ax = record { fits = z.1.1.1.0.1 }; ay = record { fits = z.1.1.1.1.0.1 }; bx = record { fits = z.1.1.1.1.1.0.1 }; by = record { fits = z.1.1.1.1.1.1.0.1 } })
       s.walls w.0 w.1.1)
 
