@@ -30,8 +30,10 @@ fn put_rows(sheet: Sheet, from: usize, count: usize, out: &mut [u8])
     let mut whole = [0u8; row::LONGEST_ROLL];
     faster_run::roll(sheet, &mut whole);
     let start = row::WIDTH * from;
-    let end = start + row::WIDTH * count;
-    out[..end - start].copy_from_slice(&whole[start..end]);
+    let needed = row::WIDTH * count;
+    let end = start + needed;
+    let part = &whole[start..end];
+    out[..needed].copy_from_slice(part);
 }
 
 // Writes the next n rows, or those left if fewer.

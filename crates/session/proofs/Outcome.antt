@@ -4,13 +4,13 @@ use mathlib.Core.List.{List, ◌++◌}
 use Prim.Native.Nat.{ℕ, ◌+◌, ◌-◌, ◌*◌, ◌≤◌, ◌<◌, min}
 use native.Mathlib.Omega.{arith}
 use lib.ListN.{length, take, drop, length-take, length-drop}
-use lib.Seq.{take-length}
 use Rattle.sheet.specs.Returned.{accepted, gives, refused}
 use Rattle.sheet.specs.HandedIn.{handed_in, check_of}
 use Rattle.sheet.specs.Lent.{and_then}
 use Rattle.sheet.proofs.Lent as ending
 use Rattle.rule.specs.RowBytes.{roll_bytes, row_width}
 use Rattle.rule.proofs.Existence.{roll_length}
+use Rattle.rule.proofs.RowBytes.{roll_bytes_length}
 use Rattle.records.specs.Records.{Handed}
 use Rattle.sheet.specs.declared.Answer.{Answer}
 use Rattle.plain_run.proofs.Outcome.{tracks_count}
@@ -54,7 +54,7 @@ module _ (s : Session) (n : ℕ) (before : List ℕ) where
         record { answer = x; session = rw (sym x) refl; buffer = b }
 
     pub shows : (rest : List ℕ) {exit whole part : List ℕ} → row_width * k ≤ length before → whole ≡ roll_bytes (roll_in s) ++ rest
-        → part ≡ take (row_width * from + row_width * k - row_width * from) (drop (row_width * from) whole) → exit ≡ take (length part) part ++ drop (length part) before
+        → part ≡ take (row_width * from + row_width * k - row_width * from) (drop (row_width * from) whole) → exit ≡ part ++ drop (row_width * k) before
         → Advances s n before exit (record { session = record { sheet = s.sheet; shown = from + k }; answer = Gives k })
     unfolding advance_session
     shows rest {exit} {whole} {part} h w p q =
@@ -69,8 +69,8 @@ module _ (s : Session) (n : ℕ) (before : List ℕ) where
         ∙ ap roll_bytes rows in
         let x : exit ≡ bytes ++ drop (length bytes) before =
         q
-        ∙ ap (λ (y : List ℕ). take (length y) y ++ drop (length y) before) g
-        ∙ ap (λ (y : List ℕ). y ++ drop (length bytes) before) (take-length bytes) in
+        ∙ ap (λ (y : List ℕ). y ++ drop (row_width * k) before) g
+        ∙ ap (λ (j : ℕ). bytes ++ drop j before) (sym (roll_bytes_length new ∙ ap (λ (j : ℕ). row_width * j) count)) in
         let (a, b) = ending.stored bytes before (row_width * length new) ok count (omega (arith, count)) x in
         record { answer = a; session = rw (sym a) (ap (λ (j : ℕ). record { sheet = s.sheet; shown = j }) e); buffer = b }
 

@@ -92,7 +92,8 @@ impl Session {
                 }
                 let start = row::WIDTH * from;
                 let end = start + needed;
-                out[..end - start].copy_from_slice(&roll[start..end]);
+                let part = &roll[start..end];
+                out[..needed].copy_from_slice(part);
                 let shown = from + k;
                 let session = Session { sheet, shown };
                 Advanced {
