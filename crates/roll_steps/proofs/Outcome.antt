@@ -5,7 +5,6 @@ use mathlib.Core.List.{List, ◌++◌}
 use Prim.Native.Nat.{ℕ, ◌+◌, ◌-◌, ◌*◌, ◌≤◌, ◌<◌, min}
 use native.Mathlib.Omega.{arith}
 use lib.ListN.{length, take, drop, length-take, length-drop}
-use lib.Seq.{take-length}
 use Rattle.sheet.specs.declared.Sheet.{Sheet}
 use Rattle.sheet.specs.HandedIn.{handed_in}
 use Rattle.sheet.specs.Lent.{and_then}
@@ -36,11 +35,12 @@ none roll before = record { is = refl }
 
 pub copied :
     (from count : ℕ) (roll : List Row) (rest : List ℕ) {before exit whole part : List ℕ} → from + count ≤ length roll → whole ≡ roll_bytes roll ++ rest
-    → part ≡ take (row_width * from + row_width * count - row_width * from) (drop (row_width * from) whole) → exit ≡ take (length part) part ++ drop (length part) before
+    → part ≡ take (row_width * from + row_width * count - row_width * from) (drop (row_width * from) whole) → exit ≡ part ++ drop (row_width * count) before
     → Written (take count (drop from roll)) before exit
 copied from count roll rest {before} {exit} {whole} {part} h w p q =
     let rows = take count (drop from roll) in
     let i : row_width * from + row_width * count - row_width * from ≡ row_width * count = omega arith in
+    let many : count ≡ length rows = omega (arith, length-take count (drop from roll), length-drop from roll, h) in
     let g : part ≡ roll_bytes rows =
     p
     ∙ ap (λ (j : ℕ). take j (drop (row_width * from) whole)) i
@@ -48,9 +48,8 @@ copied from count roll rest {before} {exit} {whole} {part} h w p q =
     ∙ rows_at from count roll rest h in
     record {
       is = q
-          ∙ ap (λ (y : List ℕ). take (length y) y ++ drop (length y) before) g
-          ∙ ap (λ (y : List ℕ). y ++ drop (length (roll_bytes rows)) before) (take-length (roll_bytes rows))
-          ∙ ap (λ (j : ℕ). roll_bytes rows ++ drop j before) (roll_bytes_length rows);
+          ∙ ap (λ (y : List ℕ). y ++ drop (row_width * count) before) g
+          ∙ ap (λ (j : ℕ). roll_bytes rows ++ drop (row_width * j) before) many;
     }
 
 -- ---- a step
