@@ -3,7 +3,9 @@
 // The smallest whole program over the interface crate `fissures`; `bulletin` says what is printed.
 #![tactic(auto)]
 
-ghost use Rattle.std.specs.Prelude.{◌≡◌, ◌+◌, ◌≤◌, length, take};
+ghost use Rattle.std.specs.Prelude.{◌≡◌, ◌+◌, ◌≤◌, length, take, OnOk, IfSome};
+ghost use Rattle.std.specs.Io.KnownBytes.{Appends};
+ghost use Rattle.sheet.specs.declared.TheConstants.{DECIDING};
 ghost use Rattle.sheet.specs.HandedIn.{check_of};
 ghost use Rattle.session.specs.Stepping.{running_of};
 ghost use Rattle.text.specs.Lines.{longest_still};
@@ -11,7 +13,8 @@ ghost use Rattle.page.specs.Behind.{Behind};
 ghost use Rattle.bulletin.specs.Bulletin.{Shows, running_text, bulletin_of, bulletin_room};
 
 use fissures::{Advanced, Answer, Session, Verdict};
-use libc::{STDIN_FILENO, STDOUT_FILENO};
+use std::io;
+use std::io::{Read, Write};
 
 // Opens a session over a sheet's bytes and writes the first n rows of its roll, or all if fewer. Any bytes may come: a
 // refused sheet gives the table's number and place.
@@ -66,11 +69,18 @@ fn bulletin(sheet: &[u8], out: &mut [u8]) -> usize
 // Room for every bulletin.
 const ROOM: usize = 512;
 
-// The bytes that it reads decide every sheet (SHEETS 2.10).
-fn main() {
+// The text for a sheet, from any input to any output. The bytes that it reads decide every sheet (SHEETS 2.10).
+fn answer<R: Read, W: Write>(from: &mut R, to: &mut W) -> io::Result<()>
+    ensures { OnOk result (IfSome (R.remaining from.old)
+        (λ s. Appends (W.contents to.old) (W.contents to.new) (bulletin_of (take DECIDING s)))) }
+{
     let mut sheet = [0u8; sheet::DECIDING];
-    let length = io::read_full(STDIN_FILENO, &mut sheet);
+    let length = input::read_full(from, &mut sheet)?;
     let mut out = [0u8; ROOM];
     let n = bulletin(&sheet[..length], &mut out);
-    io::write_all(STDOUT_FILENO, &out[..n]);
+    to.write_all(&out[..n])
+}
+
+fn main(rt: HostRuntime) -> io::Result<()> {
+    answer(&mut rt.stdin(), &mut rt.stdout())
 }

@@ -52,11 +52,11 @@ module _ {l : List Command} where
   module _ {layer : Layer} {main index : List ℕ} where
     main_most : {k at : ℕ} {rows : List Row} {shapes : List Figure} → ShapesOf l layer rows shapes → Records main index k at shapes → length main ≤ 2 * at + (8 + 2 * most layer) * length rows
     main_most none (ends e i) = omega arith
-    main_most (more h t) (next r u) = omega (arith, small h r.shape, main_most t u)
+    main_most {k = k} (more h t) (next r u) = omega (arith, small h r.shape, main_most {k = k + 1} t u)
 
     index_is : {k at : ℕ} {rows : List Row} {shapes : List Figure} → ShapesOf l layer rows shapes → Records main index k at shapes → length index ≡ 100 + 8 * (k + length rows)
     index_is none (ends e i) = omega arith
-    index_is (more h t) (next r u) = omega (arith, index_is t u)
+    index_is {k = k} (more h t) (next r u) = omega (arith, index_is {k = k + 1} t u)
 
 -- ---- null shapes
 

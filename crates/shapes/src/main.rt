@@ -2,15 +2,25 @@
 // BASE-ends.shx, where BASE is the program's argument. Prints the refusal of a refused sheet, and then writes none.
 #![tactic(auto)]
 
-ghost use Rattle.std.specs.Prelude.{length};
+ghost use Rattle.std.specs.Prelude.{◌≡◌, ℕ, ◌≤◌, length, OnOk};
+ghost use Rattle.std.specs.Io.KnownBytes.{Appends};
+ghost use Rattle.sheet.specs.Returned.{refused};
+ghost use Rattle.sheet.specs.Scan.{verdict_of};
+ghost use Rattle.text.specs.Lines.{refused_of};
 ghost use Rattle.shapes.specs.Started.{Starts, name_of, bytes_of};
 
-use libc::{STDERR_FILENO, STDIN_FILENO, STDOUT_FILENO};
 use shapefile::{Layer, Part};
 use sheet::{Answer, Verdict};
+use std::env::Env;
+use std::fs::Files;
+use std::io::Write;
+use std::{fs, io};
 
 // Room for the line of any refusal.
 const LINE: usize = 64;
+
+// Room for the longest path that the system takes.
+const PATH: usize = 4096;
 
 // The name of a file: BASE and what follows it; none where there is no room for it.
 fn name(base: &[u8], ending: &[u8], path: &mut [u8]) -> usize
@@ -40,61 +50,116 @@ fn fill(layer: Layer, part: Part, sheet: &[u8], out: &mut [u8]) -> usize
     }
 }
 
-// Writes a file, and says so.
-fn save(path: &[u8], file: &[u8]) {
-    let made = os::open_overwrite(path);
-    if made < 0 {
-        os::fail(path);
-        return;
+// Where files are made, and the two outputs.
+#[derive(Drop)]
+struct Host<F, W, E> {
+    files: F,
+    out: W,
+    errors: E,
+}
+
+// Makes a file, or writes it anew. The system takes a name that is text.
+fn write_file<F: Files>(files: &F, path: &[u8], file: &[u8]) -> io::Result<()> {
+    match str::from_utf8(path) {
+        Ok(text) => fs::write(files, text, file),
+        Err(_) => Err(io::Error::from(io::ErrorKind::InvalidFilename)),
     }
-    let whole = io::write_all(made, file);
-    libc::close(made);
-    if !whole {
-        os::fail(path);
-        return;
-    }
-    io::write_all(STDOUT_FILENO, path);
-    io::write_all(STDOUT_FILENO, b" ");
-    io::print_decimal(STDOUT_FILENO, file.len() as u64);
-    io::write_all(STDOUT_FILENO, b"\n");
 }
 
-// The file of a layer.
-fn export(layer: Layer, part: Part, sheet: &[u8], base: &[u8], ending: &[u8]) {
-    let mut file = [0u8; shape_layers::LONGEST_TRACES_SHP];
-    let size = fill(layer, part, sheet, &mut file);
-    let mut path = io::buffer();
-    let n = name(base, ending, &mut path);
-    save(&path[..n], &file[..size]);
-}
-
-fn refuse(number: u8, place: usize) {
-    let mut line = [0u8; LINE];
-    let n = page::put_refusal(number, place, &mut line);
-    io::write_all(STDOUT_FILENO, &line[..n]);
-}
-
-fn answer(sheet: &[u8], base: &[u8]) {
-    let verdict = sheet_reader::scan(sheet);
-    match verdict {
-        Verdict::Refused(number, place) => refuse(number, place),
-        Verdict::Accepted => {
-            export(Layer::Traces, Part::Main, sheet, base, b"-traces.shp");
-            export(Layer::Traces, Part::Index, sheet, base, b"-traces.shx");
-            export(Layer::Ends, Part::Main, sheet, base, b"-ends.shp");
-            export(Layer::Ends, Part::Index, sheet, base, b"-ends.shx");
+// Writes a file, and says so; or why it could not.
+fn save<F: Files, W: Write, E: Write>(
+    host: &mut Host<F, W, E>,
+    path: &[u8],
+    file: &[u8],
+) -> io::Result<()> {
+    match write_file(&host.files, path, file) {
+        Ok(()) => {
+            let size = file.len();
+            host.out.write_all(path)?;
+            writeln!(host.out, " {size}")
+        }
+        Err(error) => {
+            host.errors.write_all(path)?;
+            writeln!(host.errors, ": {error}")
         }
     }
 }
 
-fn main() {
-    let mut base = io::buffer();
-    let n = os::arg(1, &mut base);
+// The file of a layer.
+fn export<F: Files, W: Write, E: Write>(
+    host: &mut Host<F, W, E>,
+    layer: Layer,
+    part: Part,
+    sheet: &[u8],
+    base: &[u8],
+    ending: &[u8],
+) -> io::Result<()> {
+    let mut file = [0u8; shape_layers::LONGEST_TRACES_SHP];
+    let size = fill(layer, part, sheet, &mut file);
+    let mut path = [0u8; PATH];
+    let n = name(base, ending, &mut path);
+    save(host, &path[..n], &file[..size])
+}
+
+// The line of a refusal.
+fn refuse<W: Write>(out: &mut W, number: u8, place: usize) -> io::Result<()>
+    ensures { OnOk result (Appends (W.contents out.old) (W.contents out.new) (refused_of number place)) }
+{
+    let mut line = [0u8; LINE];
+    let n = page::put_refusal(number, place, &mut line);
+    out.write_all(&line[..n])
+}
+
+// The four files, or the refusal and nothing else.
+fn answer<F: Files, W: Write, E: Write>(
+    host: &mut Host<F, W, E>,
+    sheet: &[u8],
+    base: &[u8],
+) -> io::Result<()>
+    ensures { (k p : ℕ) → verdict_of sheet.now ≡ refused k p
+        → OnOk result (Appends (W.contents host.old.out) (W.contents host.new.out) (refused_of k p)) }
+{
+    let verdict = sheet_reader::scan(sheet);
+    match verdict {
+        Verdict::Refused(number, place) => refuse(&mut host.out, number, place),
+        Verdict::Accepted => {
+            export(host, Layer::Traces, Part::Main, sheet, base, b"-traces.shp")?;
+            export(
+                host,
+                Layer::Traces,
+                Part::Index,
+                sheet,
+                base,
+                b"-traces.shx",
+            )?;
+            export(host, Layer::Ends, Part::Main, sheet, base, b"-ends.shp")?;
+            export(host, Layer::Ends, Part::Index, sheet, base, b"-ends.shx")
+        }
+    }
+}
+
+// The program's argument; none where it is missing or there is no room for it.
+fn argument<A: Env>(env: &A, base: &mut [u8]) -> usize
+    ensures { result ≤ length base.new }
+{
+    match env.arg(1, base) {
+        Ok(n) => n,
+        Err(_) => 0,
+    }
+}
+
+fn main(rt: HostRuntime) -> io::Result<()> {
+    let mut base = [0u8; PATH];
+    let n = argument(&rt, &mut base);
     if n == 0 {
-        io::write_all(STDERR_FILENO, b"usage: shapes BASE < SHEET\n");
-        return;
+        return rt.stderr().write_all(b"usage: shapes BASE < SHEET\n");
     }
     let mut sheet = [0u8; sheet::DECIDING];
-    let m = io::read_full(STDIN_FILENO, &mut sheet);
-    answer(&sheet[..m], &base[..n]);
+    let m = input::read_full(&mut rt.stdin(), &mut sheet)?;
+    let mut host = Host {
+        files: &rt,
+        out: rt.stdout(),
+        errors: rt.stderr(),
+    };
+    answer(&mut host, &sheet[..m], &base[..n])
 }

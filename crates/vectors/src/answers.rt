@@ -1,7 +1,8 @@
 // What is printed of each call's answer.
 use grid_run::GridRolled;
-use libc::STDOUT_FILENO;
 use sheet::{Answer, Sheet};
+use std::io;
+use std::io::Write;
 
 // The low half of n as a digit.
 fn digit(n: u8) -> u8 {
@@ -9,63 +10,74 @@ fn digit(n: u8) -> u8 {
     if d < 10 { 48 + d } else { 87 + d }
 }
 
+// Room for the digits that are written at a time.
+const DIGITS: usize = 512;
+
 // The first n bytes of s in hexadecimal.
-pub fn print_hex(s: &[u8], n: usize) {
+pub fn print_hex<W: Write>(out: &mut W, s: &[u8], n: usize) -> io::Result<()> {
+    let mut digits = [0u8; DIGITS];
+    let mut used = 0;
     let mut i = 0;
     while i < s.len() {
         if n <= i {
-            return;
+            break;
+        }
+        if DIGITS - 2 < used {
+            out.write_all(&digits[..used])?;
+            used = 0;
         }
         let b = s[i];
-        let two = [digit(b / 16), digit(b)];
-        io::write_all(STDOUT_FILENO, &two);
+        digits[used] = digit(b / 16);
+        digits[used + 1] = digit(b);
+        used += 2;
         i += 1;
     }
+    out.write_all(&digits[..used])
 }
 
-pub fn print_text(text: &[u8]) {
-    io::write_all(STDOUT_FILENO, text);
+pub fn print_text<W: Write>(out: &mut W, text: &[u8]) -> io::Result<()> {
+    out.write_all(text)
 }
 
-pub fn print_number(n: usize) {
-    io::print_decimal(STDOUT_FILENO, n as u64);
+pub fn print_number<W: Write>(out: &mut W, n: usize) -> io::Result<()> {
+    write!(out, "{n}")
 }
 
 // `refused` and the table's two numbers.
-pub fn print_refusal(number: u8, place: usize) {
-    print_text(b"refused ");
-    print_number(number as usize);
-    print_text(b" ");
-    print_number(place);
+pub fn print_refusal<W: Write>(out: &mut W, number: u8, place: usize) -> io::Result<()> {
+    print_text(out, b"refused ")?;
+    print_number(out, number as usize)?;
+    print_text(out, b" ")?;
+    print_number(out, place)
 }
 
 // The numbers of tracks and walls, and the ordered form.
-pub fn print_form(sheet: Sheet) {
-    print_number(sheet.ntracks);
-    print_text(b" ");
-    print_number(sheet.nwalls);
-    print_text(b" ");
+pub fn print_form<W: Write>(out: &mut W, sheet: Sheet) -> io::Result<()> {
+    print_number(out, sheet.ntracks)?;
+    print_text(out, b" ")?;
+    print_number(out, sheet.nwalls)?;
+    print_text(out, b" ")?;
     let mut form = [0u8; sheet::LONGEST_SHEET];
     let answer = sheet_writer::write(sheet, &mut form);
     match answer {
-        Answer::Gives(n) => print_hex(&form, n),
-        Answer::Refused(number, place) => print_refusal(number, place),
+        Answer::Gives(n) => print_hex(out, &form, n)?,
+        Answer::Refused(number, place) => print_refusal(out, number, place)?,
     }
-    print_text(b"\n");
+    print_text(out, b"\n")
 }
 
 // The plain run's rows, of at most 256 tracks.
-pub fn print_rows(answer: Answer, rows: &[u8]) {
-    print_text(b"roll ");
+pub fn print_rows<W: Write>(out: &mut W, answer: Answer, rows: &[u8]) -> io::Result<()> {
+    print_text(out, b"roll ")?;
     match answer {
         Answer::Gives(n) => {
             if n <= 256 {
-                print_hex(rows, row::WIDTH * n);
+                print_hex(out, rows, row::WIDTH * n)?;
             }
         }
-        Answer::Refused(number, place) => print_refusal(number, place),
+        Answer::Refused(number, place) => print_refusal(out, number, place)?,
     }
-    print_text(b"\n");
+    print_text(out, b"\n")
 }
 
 fn same(a: &[u8], b: &[u8]) -> bool {
@@ -83,29 +95,36 @@ fn same(a: &[u8], b: &[u8]) -> bool {
 }
 
 // The cells entered, or `differs` where what the grid run left of a blank buffer is not what the plain run left of one.
-pub fn print_cells(answer: GridRolled, again: &[u8], rows: &[u8]) {
-    print_text(b" ");
+pub fn print_cells<W: Write>(
+    out: &mut W,
+    answer: GridRolled,
+    again: &[u8],
+    rows: &[u8],
+) -> io::Result<()> {
+    print_text(out, b" ")?;
     match answer {
         GridRolled::Rows { rows: _, cells } => {
             if same(again, rows) {
-                io::print_decimal(STDOUT_FILENO, cells);
+                write!(out, "{cells}")
             } else {
-                print_text(b"differs");
+                print_text(out, b"differs")
             }
         }
-        GridRolled::Refused(number, place) => print_refusal(number, place),
+        GridRolled::Refused(number, place) => print_refusal(out, number, place),
     }
 }
 
 // The ids of a cell, of at most 256 tracks.
-pub fn print_ids(answer: Answer, ids: &[u8]) {
-    print_text(b" ");
+pub fn print_ids<W: Write>(out: &mut W, answer: Answer, ids: &[u8]) -> io::Result<()> {
+    print_text(out, b" ")?;
     match answer {
         Answer::Gives(n) => {
             if n <= 256 {
-                print_hex(ids, 2 * n);
+                print_hex(out, ids, 2 * n)
+            } else {
+                Ok(())
             }
         }
-        Answer::Refused(number, place) => print_refusal(number, place),
+        Answer::Refused(number, place) => print_refusal(out, number, place),
     }
 }

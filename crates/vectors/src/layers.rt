@@ -1,8 +1,9 @@
 // The files of a sheet's layers, from its bytes or from records: of each its length and a checksum, or the refusal.
 use crate::answers::{print_number, print_refusal, print_text};
-use libc::STDOUT_FILENO;
 use shape_layers::LONGEST_TRACES_SHP;
 use sheet::{Answer, Sheet};
+use std::io;
+use std::io::Write;
 
 // A prime below 2 ^ 55, so that a step stays within 64 bits.
 const MODULUS: u64 = 36028797018963913;
@@ -23,36 +24,37 @@ fn checksum(file: &[u8], n: usize) -> u64 {
     sum
 }
 
-fn print_file(answer: Answer, file: &[u8]) {
-    print_text(b" ");
+fn print_file<W: Write>(out: &mut W, answer: Answer, file: &[u8]) -> io::Result<()> {
+    print_text(out, b" ")?;
     match answer {
         Answer::Gives(n) => {
-            print_number(n);
-            print_text(b" ");
-            io::print_decimal(STDOUT_FILENO, checksum(file, n));
+            print_number(out, n)?;
+            print_text(out, b" ")?;
+            let sum = checksum(file, n);
+            write!(out, "{sum}")
         }
-        Answer::Refused(number, place) => print_refusal(number, place),
+        Answer::Refused(number, place) => print_refusal(out, number, place),
     }
 }
 
 // Traces and their index, ends and their index; of bytes.
-pub fn print_of_bytes(s: &[u8]) {
-    let mut out = [0u8; LONGEST_TRACES_SHP];
-    print_text(b"shapes");
-    print_file(shape_layers::traces_shp_bytes(s, &mut out), &out);
-    print_file(shape_layers::traces_shx_bytes(s, &mut out), &out);
-    print_file(shape_layers::ends_shp_bytes(s, &mut out), &out);
-    print_file(shape_layers::ends_shx_bytes(s, &mut out), &out);
-    print_text(b"\n");
+pub fn print_of_bytes<W: Write>(out: &mut W, s: &[u8]) -> io::Result<()> {
+    let mut file = [0u8; LONGEST_TRACES_SHP];
+    print_text(out, b"shapes")?;
+    print_file(out, shape_layers::traces_shp_bytes(s, &mut file), &file)?;
+    print_file(out, shape_layers::traces_shx_bytes(s, &mut file), &file)?;
+    print_file(out, shape_layers::ends_shp_bytes(s, &mut file), &file)?;
+    print_file(out, shape_layers::ends_shx_bytes(s, &mut file), &file)?;
+    print_text(out, b"\n")
 }
 
 // The same of records.
-pub fn print_of_records(sheet: Sheet) {
-    let mut out = [0u8; LONGEST_TRACES_SHP];
-    print_text(b"shapes");
-    print_file(shape_layers::traces_shp(sheet, &mut out), &out);
-    print_file(shape_layers::traces_shx(sheet, &mut out), &out);
-    print_file(shape_layers::ends_shp(sheet, &mut out), &out);
-    print_file(shape_layers::ends_shx(sheet, &mut out), &out);
-    print_text(b"\n");
+pub fn print_of_records<W: Write>(out: &mut W, sheet: Sheet) -> io::Result<()> {
+    let mut file = [0u8; LONGEST_TRACES_SHP];
+    print_text(out, b"shapes")?;
+    print_file(out, shape_layers::traces_shp(sheet, &mut file), &file)?;
+    print_file(out, shape_layers::traces_shx(sheet, &mut file), &file)?;
+    print_file(out, shape_layers::ends_shp(sheet, &mut file), &file)?;
+    print_file(out, shape_layers::ends_shx(sheet, &mut file), &file)?;
+    print_text(out, b"\n")
 }

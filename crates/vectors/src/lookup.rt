@@ -3,6 +3,8 @@
 use crate::answers::{print_hex, print_number, print_text};
 use byte_order::get16;
 use rule::Ending;
+use std::io;
+use std::io::Write;
 
 fn ending_of(kind: u8, partner: u16) -> Ending {
     if kind == 1 {
@@ -17,19 +19,19 @@ fn ending_of(kind: u8, partner: u16) -> Ending {
 }
 
 // No answer where the frame is cut short.
-pub fn answer(s: &[u8]) {
+pub fn answer<W: Write>(out: &mut W, s: &[u8]) -> io::Result<()> {
     if s.len() < 5 {
-        return;
+        return Ok(());
     }
     let ending = ending_of(s[0], get16(s, 1));
     let walls_at = 5 + (get16(s, 3) as usize);
     if s.len() < walls_at {
-        return;
+        return Ok(());
     }
     let name = names::partner_name(&s[5..walls_at], &s[walls_at..], ending);
-    print_text(b"name ");
-    print_number(name.len());
-    print_text(b" ");
-    print_hex(name, name.len());
-    print_text(b"\n");
+    print_text(out, b"name ")?;
+    print_number(out, name.len())?;
+    print_text(out, b" ")?;
+    print_hex(out, name, name.len())?;
+    print_text(out, b"\n")
 }

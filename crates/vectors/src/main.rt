@@ -11,15 +11,19 @@ mod sheets;
 
 ghost use Rattle.std.specs.Prelude.{◌<◌};
 
-use libc::STDIN_FILENO;
+use std::io;
+use std::io::{Read, Write};
 
-fn answer(kind: u8, s: &[u8]) {
+// Room for every frame.
+const FRAME: usize = 65536;
+
+fn answer<W: Write>(out: &mut W, kind: u8, s: &[u8]) -> io::Result<()> {
     if kind == 0 {
-        sheets::answer(s);
+        sheets::answer(out, s)
     } else if kind == 1 {
-        records::answer(s);
+        records::answer(out, s)
     } else {
-        lookup::answer(s);
+        lookup::answer(out, s)
     }
 }
 
@@ -30,29 +34,33 @@ fn length_of(low: u8, high: u8) -> usize
 }
 
 // One frame: answers whether there was one.
-fn frame(buf: &mut [u8]) -> bool {
+fn frame<R: Read, W: Write>(from: &mut R, out: &mut W, buf: &mut [u8]) -> io::Result<bool> {
     let mut head = [0u8; 3];
-    let got = io::read_full(STDIN_FILENO, &mut head);
+    let got = input::read_full(from, &mut head)?;
     if got < 3 {
-        return false;
+        return Ok(false);
     }
     let n = length_of(head[1], head[2]);
     if buf.len() < n {
-        return false;
+        return Ok(false);
     }
-    let have = io::read_full(STDIN_FILENO, &mut buf[..n]);
+    let have = input::read_full(from, &mut buf[..n])?;
     if have < n {
-        return false;
+        return Ok(false);
     }
-    answer(head[0], &buf[..n]);
-    true
+    answer(out, head[0], &buf[..n])?;
+    Ok(true)
 }
 
-// The loop counts its turns down, from a number that no input uses up.
-fn main() {
-    let mut buf = io::large_buffer();
-    let mut turns = u64::MAX;
-    while 0 < turns && frame(&mut buf) {
-        turns -= 1;
+// The loop counts its turns, up to a number that no input uses up.
+fn main(rt: HostRuntime) -> io::Result<()> {
+    let mut from = rt.stdin();
+    let mut out = rt.stdout();
+    let mut buf = [0u8; FRAME];
+    for _ in 0..u64::MAX {
+        if !frame(&mut from, &mut out, &mut buf)? {
+            break;
+        }
     }
+    Ok(())
 }

@@ -7,6 +7,8 @@ use crate::answers::{print_cells, print_form, print_ids, print_refusal, print_ro
 use crate::layers::print_of_records;
 use byte_order::{get16, signed};
 use sheet::{Sheet, Track, Verdict, Wall};
+use std::io;
+use std::io::Write;
 
 fn track_at(s: &[u8], at: usize) -> Track
     requires { at + 10 ≤ length s.now }
@@ -92,71 +94,72 @@ fn number_at(s: &[u8], at: usize) -> usize
     first + 65536 * (second + 65536 * (third + 65536 * fourth))
 }
 
-fn grid_at(sheet: Sheet, g: u64, rows: &[u8]) {
+fn grid_at<W: Write>(out: &mut W, sheet: Sheet, g: u64, rows: &[u8]) -> io::Result<()> {
     let mut again = [0u8; row::LONGEST_ROLL];
     let answer = grid_run::grid_roll(sheet, g, &mut again);
-    print_cells(answer, &again, rows);
+    print_cells(out, answer, &again, rows)
 }
 
-fn print_figures(sheet: Sheet, rows: &[u8]) {
-    print_text(b"cells");
-    grid_at(sheet, 1, rows);
-    grid_at(sheet, 2, rows);
-    grid_at(sheet, 4, rows);
-    grid_at(sheet, 8, rows);
-    grid_at(sheet, 16, rows);
-    grid_at(sheet, 32, rows);
-    print_text(b"\n");
+fn print_figures<W: Write>(out: &mut W, sheet: Sheet, rows: &[u8]) -> io::Result<()> {
+    print_text(out, b"cells")?;
+    grid_at(out, sheet, 1, rows)?;
+    grid_at(out, sheet, 2, rows)?;
+    grid_at(out, sheet, 4, rows)?;
+    grid_at(out, sheet, 8, rows)?;
+    grid_at(out, sheet, 16, rows)?;
+    grid_at(out, sheet, 32, rows)?;
+    print_text(out, b"\n")
 }
 
-fn print_rolls(sheet: Sheet) {
+fn print_rolls<W: Write>(out: &mut W, sheet: Sheet) -> io::Result<()> {
     let mut rows = [0u8; row::LONGEST_ROLL];
     let answer = plain_run::plain_roll(sheet, &mut rows);
-    print_rows(answer, &rows);
-    print_figures(sheet, &rows);
+    print_rows(out, answer, &rows)?;
+    print_figures(out, sheet, &rows)
 }
 
-fn list_at(sheet: Sheet, g: u64, column: u64, row: u64) {
+fn list_at<W: Write>(out: &mut W, sheet: Sheet, g: u64, column: u64, row: u64) -> io::Result<()> {
     let mut ids = [0u8; cell_listing::LONGEST_CELL];
     let answer = cell_listing::cell_tracks(sheet, g, column, row, &mut ids);
-    print_ids(answer, &ids);
+    print_ids(out, answer, &ids)
 }
 
 // The first cells of a grid, by columns, then rows.
-fn list_cells(sheet: Sheet, g: u64, count: u64)
+fn list_cells<W: Write>(out: &mut W, sheet: Sheet, g: u64, count: u64) -> io::Result<()>
     requires { 0 < g }
 {
     let mut k = 0;
     while k < count {
-        list_at(sheet, g, k / g, k % g);
+        list_at(out, sheet, g, k / g, k % g)?;
         k += 1;
     }
+    Ok(())
 }
 
-fn print_listed(sheet: Sheet) {
-    print_text(b"listed");
-    list_cells(sheet, 2, 4);
-    list_cells(sheet, 4, 16);
-    print_text(b"\n");
+fn print_listed<W: Write>(out: &mut W, sheet: Sheet) -> io::Result<()> {
+    print_text(out, b"listed")?;
+    list_cells(out, sheet, 2, 4)?;
+    list_cells(out, sheet, 4, 16)?;
+    print_text(out, b"\n")
 }
 
-fn print_check(sheet: Sheet) {
+fn print_check<W: Write>(out: &mut W, sheet: Sheet) -> io::Result<()> {
     let verdict = sheet_writer::check(sheet);
     match verdict {
-        Verdict::Accepted => print_text(b"accepted"),
-        Verdict::Refused(number, place) => print_refusal(number, place),
+        Verdict::Accepted => print_text(out, b"accepted")?,
+        Verdict::Refused(number, place) => print_refusal(out, number, place)?,
     }
-    print_text(b"\n");
+    print_text(out, b"\n")
 }
 
 // No answer where the frame is cut short.
-pub fn answer(s: &[u8]) {
+pub fn answer<W: Write>(out: &mut W, s: &[u8]) -> io::Result<()> {
     if s.len() < 18 {
-        return;
+        return Ok(());
     }
     let walls_at = 18 + 10 * (get16(s, 16) as usize);
     if s.len() < walls_at {
-        return;
+        return Ok(());
     }
     let sheet = Sheet {
         tracks: tracks_in(&s[18..walls_at]),
@@ -164,9 +167,9 @@ pub fn answer(s: &[u8]) {
         walls: walls_in(&s[walls_at..]),
         nwalls: number_at(s, 8),
     };
-    print_check(sheet);
-    print_form(sheet);
-    print_rolls(sheet);
-    print_listed(sheet);
-    print_of_records(sheet);
+    print_check(out, sheet)?;
+    print_form(out, sheet)?;
+    print_rolls(out, sheet)?;
+    print_listed(out, sheet)?;
+    print_of_records(out, sheet)
 }
