@@ -1,12 +1,12 @@
 // Answers framed questions from standard input, and is compared with the reference implementation's answers. A frame is its kind in one byte, the
-// length of the rest in two, low byte first, and the rest. Kind 0 is a sheet's bytes (sheets.rt), 1 records handed in (records.rt),
+// length of the rest in two, low byte first, and the rest. Kind 0 is a sheet's bytes (sheets.rt), 1 records handed in (handed.rt),
 // any other a name that is looked up (lookup.rt).
 #![tactic(auto)]
 
 mod answers;
+mod handed;
 mod layers;
 mod lookup;
-mod records;
 mod sheets;
 
 ghost use Rattle.std.specs.Prelude.{◌<◌};
@@ -21,7 +21,7 @@ fn answer<W: Write>(out: &mut W, kind: u8, s: &[u8]) -> io::Result<()> {
     if kind == 0 {
         sheets::answer(out, s)
     } else if kind == 1 {
-        records::answer(out, s)
+        handed::answer(out, s)
     } else {
         lookup::answer(out, s)
     }

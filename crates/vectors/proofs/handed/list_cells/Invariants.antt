@@ -1,6 +1,6 @@
 -- `list_cells` ends, and divides by a figure above 0.
 use Rattle.std.proofs.Common.{◌-◌, ◌<◌}
-use Rattle.vectors.proofs.records.list_cells.Given as goal
+use Rattle.vectors.proofs.handed.list_cells.Given as goal
 
 abbrev pub invariant-loop-k : goal.invariant-loop-k
 invariant-loop-k g l = 0 < l.g
