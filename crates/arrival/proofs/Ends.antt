@@ -10,8 +10,7 @@ use Rattle.fraction.proofs.Shift.{later_is}
 use Rattle.sheet.specs.declared.Track.{Track}
 use Rattle.rule.specs.Motion.{age}
 use Rattle.rule.specs.Contact.{over, zero_z, D, dx, dy, nowhere, hit, arrive₁, arrive_on, come, arrival}
-use Rattle.contact.specs.declared.Moment.{Moment}
-use Rattle.contact.specs.declared.Moment.TheVariants.{Never, At}
+use Rattle.std.specs.Prelude.{Option, Some, None}
 use Rattle.contact.specs.Answers.{quot_of}
 use Rattle.contact.proofs.Tests.{at_zero, off_zero}
 
@@ -40,12 +39,12 @@ module _ (a b : Track) (e : Time) where
   unfolding arrival
   arrival-off f = off_zero (D a b) (arrival a b e) nowhere (λ p. refl) f
 
-  module _ (z : D a b ≡ pos 0) {m : Moment} (h : quot_of m ≡ arrive_on a b (zero_z a.vx) (age b e)) where
-    pub arrival_never : m ≡ Never → nowhere ≡ arrival a b e (zero_z (D a b))
+  module _ (z : D a b ≡ pos 0) {m : Option Fraction} (h : quot_of m ≡ arrive_on a b (zero_z a.vx) (age b e)) where
+    pub arrival_none : m ≡ None → nowhere ≡ arrival a b e (zero_z (D a b))
     unfolding arrival come
-    arrival_never x = at_zero (D a b) (arrival a b e) nowhere (λ p. ap (come a e) (ap quot_of (sym x) ∙ h)) z
+    arrival_none x = at_zero (D a b) (arrival a b e) nowhere (λ p. ap (come a e) (ap quot_of (sym x) ∙ h)) z
 
-    pub arrival-at : {u t : Fraction} → m ≡ At u → Young u → t ≡ later_by a.start u → hit (as_time t) e ≡ arrival a b e (zero_z (D a b))
+    pub arrival-at : {u t : Fraction} → m ≡ Some u → Young u → t ≡ later_by a.start u → hit (as_time t) e ≡ arrival a b e (zero_z (D a b))
     unfolding arrival come
     arrival-at {u} {t} x y k =
         at_zero (D a b) (arrival a b e) (hit (as_time t) e)

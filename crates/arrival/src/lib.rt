@@ -1,16 +1,16 @@
 // Where a tip comes to the point at which another on its line had ended (SHEETS 4.5, 4.15), exact, in 64 bits.
 #![tactic(auto)]
 
-ghost use Rattle.std.specs.Prelude.{◌≡◌, true, false, ◌*◌, ◌≤◌, pos, ◌+ℤ◌, ◌*ℤ◌};
-ghost use Rattle.fraction.specs.Sizes.{greatest_part, greatest_age, greatest_row_num, greatest_row_den, Small};
+ghost use Rattle.std.specs.Prelude.{◌≡◌, true, false, ◌*◌, ◌≤◌, pos, ◌+ℤ◌, ◌*ℤ◌, IfSome};
+ghost use Rattle.fraction.specs.Sizes.{greatest_part, greatest_age, greatest_row_num, greatest_row_den, Young, Small};
 ghost use Rattle.fraction.specs.Time.{as_time};
 ghost use Rattle.fraction.specs.Within.{Within};
 ghost use Rattle.sheet.specs.Accepted.{TrackOk};
 ghost use Rattle.rule.specs.Contact.{zero_z, D, arrive₁, arrive_on, arrival};
 ghost use Rattle.rule.specs.Side.{track_side};
-ghost use Rattle.contact.specs.Answers.{quot_of, touch_of, MomentYoung, TouchTimely, HitFrom};
+ghost use Rattle.contact.specs.Answers.{quot_of, touch_of, TouchTimely, HitFrom};
 
-use contact::{Moment, Touch};
+use contact::{Touch, Vector};
 use fraction::Fraction;
 use sheet::Track;
 
@@ -39,9 +39,9 @@ fn scaled(v: i64, den: i64) -> i64
 }
 
 // Along one axis, d from the first's start to the second's, v and w their speeds: the age of the first where the second is at the age q.
-fn along(d: i64, v: i64, w: i64, q: Fraction) -> Moment
+fn along(d: i64, v: i64, w: i64, q: Fraction) -> Option<Fraction>
     requires { Within 4095 d × Within 63 v × Within 63 w × Small q }
-    ensures { (quot_of result ≡ arrive₁ d v w (as_time q)) × MomentYoung result }
+    ensures { (quot_of result ≡ arrive₁ d v w (as_time q)) × IfSome result Young }
 {
     let num = signed(q.num);
     let den = signed(q.den);
@@ -49,9 +49,9 @@ fn along(d: i64, v: i64, w: i64, q: Fraction) -> Moment
 }
 
 // The age of tip a where tip b, on its line, is at the age q.
-fn age_where(a: Track, b: Track, q: Fraction) -> Moment
+fn age_where(a: Track, b: Track, q: Fraction) -> Option<Fraction>
     requires { TrackOk a × TrackOk b × Small q }
-    ensures { (quot_of result ≡ arrive_on a b (zero_z a.vx) (as_time q)) × MomentYoung result }
+    ensures { (quot_of result ≡ arrive_on a b (zero_z a.vx) (as_time q)) × IfSome result Young }
 {
     let v = contact::speed(a.vx);
     if v == 0 {
@@ -67,33 +67,24 @@ fn parallel(a: Track, b: Track) -> bool
     requires { TrackOk a × TrackOk b }
     ensures { (result ≡ true → D a b ≡ pos 0) × (result ≡ false → D a b ≡ pos 0 → ⊥) }
 {
-    let ux = contact::speed(a.vx);
-    let uy = contact::speed(a.vy);
-    let vx = contact::speed(b.vx);
-    let vy = contact::speed(b.vy);
-    let d = contact::cross(ux, uy, vx, vy);
+    let d = Vector::speed(a).cross(Vector::speed(b));
     d == 0
 }
 
 // Where tip a comes to the point at which tip b ended, at `end`; for tips whose lines have a contact, of which parallel ones are on one line.
-pub fn arrive(a: Track, b: Track, end: Fraction) -> Touch
+pub fn arrive(a: Track, b: Track, end: Fraction) -> Option<Touch>
     requires { TrackOk a × TrackOk b × Small end × (b.start * end.den ≤ end.num) }
     ensures { (touch_of result ≡ arrival a b (as_time end) (zero_z (D a b))) × TouchTimely result × HitFrom (track_side a b) result }
 {
-    if parallel(a, b) {
-        match age_where(a, b, fraction::since(end, b.start)) {
-            Moment::Never => Touch::Nowhere,
-            Moment::At(age) => {
-                let at = fraction::later(age, a.start);
-                let side = contact::track_side(a, b);
-                Touch::Hit {
-                    at,
-                    there: end,
-                    side,
-                }
-            }
-        }
-    } else {
-        Touch::Nowhere
+    if !parallel(a, b) {
+        return None;
     }
+    let age = age_where(a, b, fraction::since(end, b.start))?;
+    let at = fraction::later(age, a.start);
+    let side = contact::track_side(a, b);
+    Some(Touch {
+        at,
+        there: end,
+        side,
+    })
 }

@@ -5,12 +5,12 @@ use Rattle.sheet.specs.Lent.{after}
 use Rattle.sheet.specs.Listing.{listing}
 use Rattle.sheet.specs.Returned.{Returned, accepted, gives, refused}
 use Rattle.sheet.specs.Scan.{verdict_of, commands_of}
+use Rattle.sheet.specs.Answer.{answered}
 use Rattle.sheet_reader.specs.Reading.{records_of}
 use Rattle.rule.specs.declared.Row.{Row}
 use Rattle.rule.specs.RowBytes.{roll_bytes}
 use Rattle.rule.specs.Selection.{roll_of}
-use Rattle.sheet.specs.Answer.{answered}
-use Rattle.session.specs.declared.Advanced.{Advanced}
+use Rattle.bulletin.specs.declared.FirstRows.{FirstRows}
 use Rattle.session.specs.Stepping.{begun, advance_returns, advance_session}
 use Rattle.text.specs.Lines.{refused_of, still_of, longest_line, longest_still}
 use Rattle.page.specs.Rows.{lines_of}
@@ -22,9 +22,9 @@ first_rows s n = take n (roll_of (listing (commands_of s)))
 abbrev pub first_returns : List ℕ → ℕ → ℕ → Returned
 first_returns s n lent = advance_returns (verdict_of s) (first_rows s n) lent
 
--- the answer, the session handed back, and the buffer's contents at exit
-pub record Shows (s : List ℕ) (n : ℕ) (before exit : List ℕ) (r : Advanced) : Type 0 where
-  pub answer : answered r.answer ≡ first_returns s n (length before)
+-- the answer, the session that is left, and the buffer's contents at exit
+pub record Shows (s : List ℕ) (n : ℕ) (before exit : List ℕ) (r : FirstRows) : Type 0 where
+  pub answer : answered r.count ≡ first_returns s n (length before)
   pub session : r.session ≡ advance_session (first_returns s n (length before)) (begun (sheet_of (records_of s)))
   pub buffer : exit ≡ after (first_returns s n (length before)) (roll_bytes (first_rows s n)) before
 

@@ -12,23 +12,30 @@ ghost use Rattle.text.specs.Lines.{longest_still};
 ghost use Rattle.page.specs.Behind.{Behind};
 ghost use Rattle.bulletin.specs.Bulletin.{Shows, running_text, bulletin_of, bulletin_room};
 
-use fissures::{Advanced, Answer, Session, Verdict};
+use fissures::{Refusal, Session};
 use std::io;
 use std::io::{Read, Write};
 
-// Opens a session over a sheet's bytes and writes the first n rows of its roll, or all if fewer. Any bytes may come: a
-// refused sheet gives the table's number and place.
-fn first_rows(sheet: &[u8], n: usize, rows: &mut [u8]) -> Advanced
+// How many rows were written or what is refused, and the session that is left, on a refusal too.
+#[derive(Clone, Copy)]
+struct FirstRows {
+    count: Result<usize, Refusal>,
+    session: Session,
+}
+
+// Opens a session over a sheet's bytes and writes the first n rows of its roll, or all if fewer. Any bytes may come: a sheet may be refused.
+fn first_rows(sheet: &[u8], n: usize, rows: &mut [u8]) -> FirstRows
     ensures { Shows sheet.now n rows.old rows.new result }
 {
-    let begun = Session::open(sheet);
-    let session = begun.session;
-    let verdict = begun.answer;
-    match verdict {
-        Verdict::Accepted => session.advance(n, rows),
-        Verdict::Refused(number, place) => Advanced {
-            session,
-            answer: Answer::Refused(number, place),
+    match Session::open(sheet) {
+        Ok(opened) => {
+            let mut session = opened;
+            let count = session.advance(n, rows);
+            FirstRows { count, session }
+        }
+        Err(unopened) => FirstRows {
+            count: Err(unopened.refusal),
+            session: unopened.session,
         },
     }
 }
@@ -38,10 +45,9 @@ fn put_running(session: Session, at: usize, out: &mut [u8]) -> usize
     requires { at + longest_still ≤ length out.old }
     ensures { Behind (running_text (running_of (check_of session.sheet) session)) at out.old result out.new }
 {
-    let running = session.running();
-    match running {
-        Answer::Gives(n) => page::put_running(n, at, out),
-        Answer::Refused(_, _) => at,
+    match session.running() {
+        Ok(n) => page::put_running(n, at, out),
+        Err(_) => at,
     }
 }
 
@@ -55,14 +61,12 @@ fn bulletin(sheet: &[u8], out: &mut [u8]) -> usize
 {
     let mut rows = [0u8; ROWS];
     let shown = first_rows(sheet, 3, &mut rows);
-    let session = shown.session;
-    let answer = shown.answer;
-    match answer {
-        Answer::Gives(n) => {
+    match shown.count {
+        Ok(n) => {
             let at = page::put_rows(&rows, n, 0, out);
-            put_running(session, at, out)
+            put_running(shown.session, at, out)
         }
-        Answer::Refused(number, place) => page::put_refusal(number, place, out),
+        Err(refusal) => page::put_refusal(u8::from(refusal.kind), refusal.place, out),
     }
 }
 

@@ -1,8 +1,7 @@
 -- Runs of stores into the caller's buffer: `next` (stores one behind the other are one store of the joined bytes), and `two` to `five` of them.
-use Prim.Native.Nat.{ℕ, zero, suc, ◌≤◌, ◌<◌, ◌-◌, ◌+◌, ◌%◌, ◌/◌}
+use Prim.Native.Nat.{ℕ, suc, ◌≤◌, ◌<◌, ◌-◌, ◌+◌, ◌%◌, ◌/◌}
 use mathlib.Core.Path.{◌≡◌, refl, ap, ◌∙◌}
 use mathlib.Core.List.{List, [], ◌∷◌, ◌++◌, append_assoc}
-use native.Mathlib.Numerals.{add-one}
 use native.Mathlib.Omega.{arith}
 use lib.ListN.{length, drop, set, length-append}
 use lib.Seq.{sets, sets-eq}
@@ -50,11 +49,14 @@ pub le_none : (v : ℕ) → le_bytes 0 v ≡ []
 unfolding le_bytes
 le_none v = refl
 
-le_more : (w v : ℕ) → 0 < w → le_bytes w v ≡ v % 256 ∷ le_bytes (w - 1) (v / 256)
+le_more : (w v : ℕ) → le_bytes (suc w) v ≡ v % 256 ∷ le_bytes w (v / 256)
 unfolding le_bytes
-le_more zero v h = absurd (omega arith)
-le_more (suc w) v h = let e : w ≡ suc w - 1 = omega arith in ap (λ (k : ℕ). v % 256 ∷ le_bytes k (v / 256)) e
+le_more w v = refl
 
--- one byte stored leaves the others to store
-pub put_more : (l : List ℕ) (p w v : ℕ) → 0 < w → sets (set l p (v % 256)) (p + 1) (le_bytes (w - 1) (v / 256)) ≡ sets l p (le_bytes w v)
-put_more l p w v h = rw (add-one, le_more w v h)
+-- one byte stored, the next of w from a place on, leaves the others to store
+pub put_more : (l : List ℕ) (at w i v : ℕ) → i < w
+    → sets (set l (at + i) (v % 256)) (at + (i + 1)) (le_bytes (w - (i + 1)) (v / 256)) ≡ sets l (at + i) (le_bytes (w - i) v)
+put_more l at w i v h =
+    let e : w - i ≡ suc (w - (i + 1)) = omega arith in
+    let p : at + (i + 1) ≡ suc (at + i) = omega arith in
+    rw (e, p, le_more)

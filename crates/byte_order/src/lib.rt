@@ -1,4 +1,5 @@
 // Fields of a buffer (SHEETS 1.4): numbers of any width, low byte first, and signed bytes; in shapefiles high byte first too (SHEETS 12.2).
+// A place goes beside the buffer, and no slice from there on: what is stored in turn is put together by the places, and a slice would say them no plainer.
 #![tactic(auto)]
 
 ghost use Rattle.std.specs.Prelude.{◌≡◌, ◌+◌, ◌^◌, ◌≤◌, ◌<◌, length};
@@ -13,24 +14,15 @@ pub enum Order {
     HighFirst,
 }
 
-// A byte with its bound, so that a sum with it is known to fit.
-fn wide(b: u8) -> u64
-    ensures { (result ≡ b) × (result < 256) }
-{
-    b as u64
-}
-
-// The number that the w bytes from a place on stand for; one function for every width, as `put` is. With a width that is written as a numeral the
-// compiler makes it one load.
+// The number that the w bytes from a place on stand for; one function for every width, as `put` is, where std's `from_le_bytes` is one for each. With a
+// width that is written as a numeral the compiler makes it one load.
 pub fn get(s: &[u8], at: usize, w: usize) -> u64
     requires { (at + w ≤ length s.now) × (w ≤ 8) }
     ensures { (result ≡ le_of w s.now at) × (result < 256 ^ w) }
 {
     let mut v = 0u64;
-    let mut i = w;
-    while 0 < i {
-        i -= 1;
-        v = wide(s[at + i]) + 256 * v;
+    for i in (0..w).rev() {
+        v = u64::from(s[at + i]) + 256 * v;
     }
     v
 }
@@ -48,14 +40,10 @@ pub fn put(out: &mut [u8], at: usize, w: usize, v: u64)
     requires { at + w ≤ length out.old }
     ensures { out.new ≡ sets out.old at (le_bytes w v) }
 {
-    let mut p = at;
-    let mut left = w;
     let mut rest = v;
-    while 0 < left {
-        out[p] = (rest % 256) as u8;
-        rest = rest / 256;
-        p += 1;
-        left -= 1;
+    for i in 0..w {
+        out[at + i] = (rest % 256) as u8;
+        rest /= 256;
     }
 }
 
@@ -64,12 +52,10 @@ fn put_high_first(out: &mut [u8], at: usize, w: usize, v: u64)
     requires { at + w ≤ length out.old }
     ensures { out.new ≡ sets out.old at (be_bytes w v) }
 {
-    let mut left = w;
-    let mut rest = v;
-    while 0 < left {
-        left -= 1;
-        out[at + left] = (rest % 256) as u8;
-        rest = rest / 256;
+    let mut higher = v;
+    for i in (0..w).rev() {
+        out[at + i] = (higher % 256) as u8;
+        higher /= 256;
     }
 }
 
@@ -88,20 +74,12 @@ pub fn put_in(order: Order, out: &mut [u8], at: usize, w: usize, v: u64)
 pub fn signed(b: u8) -> i8
     ensures { result ≡ signed_of b }
 {
-    if b < 128 {
-        b as i8
-    } else {
-        -1 - ((255 - b) as i8)
-    }
+    b.cast_signed()
 }
 
 // The byte that stands for a number in two's complement.
 pub fn byte(v: i8) -> u8
     ensures { result ≡ byte_of v }
 {
-    if v < 0 {
-        255 - ((-1 - v) as u8)
-    } else {
-        v as u8
-    }
+    v.cast_unsigned()
 }

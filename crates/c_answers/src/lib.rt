@@ -5,20 +5,20 @@ ghost use Rattle.std.specs.Prelude.{◌≡◌};
 ghost use Rattle.sheet.specs.Answer.{answered};
 ghost use Rattle.c_answers.specs.Answers.{told};
 
-use sheet::Answer;
+use sheet::Refusal;
 
-// The two numbers of an answer: the first is handed back, the other stored.
-pub fn tell(answer: Answer, second: &mut u64) -> u64
+// The two numbers of an answer: the first is handed back, the other stored. Two numbers, since callers of C know no `Result`.
+pub fn tell(answer: Result<usize, Refusal>, second: &mut u64) -> u64
     ensures { (result, second.new) ≡ told (answered answer) }
 {
     match answer {
-        Answer::Gives(n) => {
+        Ok(n) => {
             *second = n as u64;
             0
         }
-        Answer::Refused(number, other) => {
-            *second = other as u64;
-            number as u64
+        Err(refusal) => {
+            *second = refusal.place as u64;
+            u64::from(u8::from(refusal.kind))
         }
     }
 }

@@ -38,8 +38,11 @@ numbers_at s k = k ∷ (length (drop k (roll_of_bytes s)) ∷ [])
 -- ---- its calls
 
 -- open and reset: no row shown (SHEETS 7.1, 7.3, 11.4)
+abbrev pub start_gives : List ℕ → List ℕ → Returned
+start_gives s session = and_then (judge s session) (gives 0)
+
 abbrev pub start_call : List ℕ → List ℕ → ℕ × ℕ × List ℕ
-start_call s session = leaves (and_then (judge s session) (gives 0)) (numbers_at s 0) session
+start_call s session = leaves (start_gives s session) (numbers_at s 0) session
 
 -- the next n rows, or those left if fewer; more rows shown than the roll has are all of them (SHEETS 7.2, 7.5)
 abbrev pub rows_behind : List ℕ → List ℕ → ℕ → List Row
@@ -58,5 +61,8 @@ advance_call s session n out =
     (number R, other R, after R (numbers_at s (shown_then s session n)) session, after R (roll_bytes (rows_behind s session n)) out)
 
 -- the rows not yet shown (SHEETS 7.4)
+abbrev pub running_gives : List ℕ → List ℕ → Returned
+running_gives s session = and_then (judge s session) (gives (length (drop (shown session) (roll_of_bytes s))))
+
 abbrev pub running_call : List ℕ → List ℕ → ℕ × ℕ
-running_call s session = told (and_then (judge s session) (gives (length (drop (shown session) (roll_of_bytes s)))))
+running_call s session = told (running_gives s session)

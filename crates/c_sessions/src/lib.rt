@@ -3,11 +3,17 @@
 #![tactic(auto)]
 
 ghost use Rattle.std.specs.Prelude.{◌≡◌, ◌∷◌, ◌≤◌, length, drop};
-ghost use Rattle.sheet.specs.Returned.{verdict};
-ghost use Rattle.c_sessions.specs.Steps.{session_size, judge, start_call, advance_call, running_call};
+ghost use Rattle.rule.specs.RowBytes.{roll_bytes};
+ghost use Rattle.sheet.specs.Answer.{answered};
+ghost use Rattle.sheet.specs.Lent.{after};
+ghost use Rattle.sheet.specs.Listing.{listing};
+ghost use Rattle.sheet.specs.Scan.{commands_of};
+ghost use Rattle.source.specs.Accepts.{Accepts};
+ghost use Rattle.c_sessions.specs.Steps.{session_size, shown_then, rows_behind, numbers_at, judge, start_gives, advance_gives, running_gives, start_call, advance_call, running_call};
 
 use c_answers::tell;
-use sheet::{Answer, OUTPUT_TOO_SHORT, Verdict};
+use sheet::{Refusal, RefusalKind, Sheet};
+use source::Source;
 
 // The numbers of a session.
 const SIZE: usize = 2;
@@ -17,20 +23,18 @@ const SHOWN: usize = 0;
 
 const RUNNING: usize = 1;
 
-// What is refused: the sheet first, then 12 for too few numbers.
-fn judged(s: &[u8], session: &[u64]) -> Verdict
-    ensures { verdict result ≡ judge s.now session.now }
+// The records of an accepted sheet. What is refused: the sheet first, then a session of too few numbers.
+fn judged(s: &[u8], session: &[u64]) -> Result<Sheet, Refusal>
+    ensures { Accepts (judge s.now session.now) (listing (commands_of s.now)) result }
 {
-    let verdict = sheet_reader::scan(s);
-    match verdict {
-        Verdict::Refused(_, _) => verdict,
-        Verdict::Accepted => {
-            if session.len() < SIZE {
-                return Verdict::Refused(OUTPUT_TOO_SHORT, SIZE);
-            }
-            verdict
-        }
+    let sheet = s.accept()?;
+    if session.len() < SIZE {
+        return Err(Refusal {
+            kind: RefusalKind::OutputTooShort,
+            place: SIZE,
+        });
     }
+    Ok(sheet)
 }
 
 fn store(session: &mut [u64], shown: usize, running: usize)
@@ -41,56 +45,53 @@ fn store(session: &mut [u64], shown: usize, running: usize)
     session[RUNNING] = running as u64;
 }
 
+fn begin(s: &[u8], session: &mut [u64]) -> Result<usize, Refusal>
+    ensures returned { answered result ≡ start_gives s.now session.old }
+    ensures held { session.new ≡ after (start_gives s.now session.old) (numbers_at s.now 0) session.old }
+{
+    let sheet = judged(s, session)?;
+    store(session, 0, sheet.ntracks);
+    Ok(0)
+}
+
 // Opens a session, or puts one back: no row shown, every track running.
 pub fn open(s: &[u8], session: &mut [u64], second: &mut u64) -> u64
     ensures { (result, second.new, session.new) ≡ start_call s.now session.old }
 {
-    let verdict = judged(s, session);
-    match verdict {
-        Verdict::Refused(number, place) => tell(Answer::Refused(number, place), second),
-        Verdict::Accepted => {
-            let sheet = sheet_reader::load(s);
-            store(session, 0, sheet.ntracks);
-            tell(Answer::Gives(0), second)
-        }
-    }
+    tell(begin(s, session), second)
+}
+
+fn step(s: &[u8], session: &mut [u64], n: usize, out: &mut [u8]) -> Result<usize, Refusal>
+    ensures returned { answered result ≡ advance_gives s.now session.old n (length out.old) }
+    ensures held { session.new ≡ after (advance_gives s.now session.old n (length out.old)) (numbers_at s.now (shown_then s.now session.old n)) session.old }
+    ensures rows { out.new ≡ after (advance_gives s.now session.old n (length out.old)) (roll_bytes (rows_behind s.now session.old n)) out.old }
+{
+    let sheet = judged(s, session)?;
+    let shown = session[SHOWN] as usize;
+    let stepped = roll_steps::advance(sheet, shown, n, out)?;
+    store(session, stepped.shown, stepped.running);
+    Ok(stepped.count)
 }
 
 // Writes the next n rows of a session, or those left if fewer; gives their number.
 pub fn advance(s: &[u8], session: &mut [u64], n: u64, out: &mut [u8], second: &mut u64) -> u64
     ensures { (result, second.new, session.new, out.new) ≡ advance_call s.now session.old n out.old }
 {
-    let verdict = judged(s, session);
-    match verdict {
-        Verdict::Refused(number, place) => tell(Answer::Refused(number, place), second),
-        Verdict::Accepted => {
-            let sheet = sheet_reader::load(s);
-            let shown = session[SHOWN] as usize;
-            let stepped = roll_steps::advance(sheet, shown, n as usize, out);
-            let answer = stepped.answer;
-            match answer {
-                Answer::Refused(_, _) => tell(answer, second),
-                Answer::Gives(_) => {
-                    store(session, stepped.shown, stepped.running);
-                    tell(answer, second)
-                }
-            }
-        }
-    }
+    tell(step(s, session, n as usize, out), second)
+}
+
+fn left(s: &[u8], session: &[u64]) -> Result<usize, Refusal>
+    ensures { answered result ≡ running_gives s.now session.now }
+{
+    let sheet = judged(s, session)?;
+    let shown = session[SHOWN] as usize;
+    let left = cursor::left(sheet.ntracks, shown);
+    Ok(left)
 }
 
 // Gives the number of tracks still running, whatever number the session holds.
 pub fn running(s: &[u8], session: &[u64], second: &mut u64) -> u64
     ensures { (result, second.new) ≡ running_call s.now session.now }
 {
-    let verdict = judged(s, session);
-    match verdict {
-        Verdict::Refused(number, place) => tell(Answer::Refused(number, place), second),
-        Verdict::Accepted => {
-            let sheet = sheet_reader::load(s);
-            let shown = session[SHOWN] as usize;
-            let left = cursor::left(sheet.ntracks, shown);
-            tell(Answer::Gives(left), second)
-        }
-    }
+    tell(left(s, session), second)
 }

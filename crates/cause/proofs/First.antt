@@ -11,9 +11,7 @@ use Rattle.sheet.specs.Listing.{Listing}
 use Rattle.sheet.specs.declared.Track.{Track}
 use Rattle.fraction.specs.Sizes.{Timely}
 use Rattle.contact.specs.declared.Touch.{Touch}
-use Rattle.contact.specs.declared.Touch.TheVariants.{Hit}
-use Rattle.rule.specs.declared.Side.{Side}
-use Rattle.rule.specs.Side.{side_number}
+use Rattle.std.specs.Prelude.{Option, Some}
 use Rattle.rule.specs.Causes as rule
 use Rattle.rule.specs.Causes.{Cand, ◌≼◌}
 use Rattle.cause.specs.declared.Cause.{Cause}
@@ -70,14 +68,6 @@ module _ (S : Listing) (t : Track) {a b r : Cause} (p : Stands S t a) (q : Stand
   pub first_of : Least a b r → Stands S t r × (cand_of S r ≼ cand_of S a) × (cand_of S r ≼ cand_of S b)
   first_of h = (first_stands h, first-left h, first-right h)
 
--- the first of c and a cause, whose side was told as n and is m
-module _ {c : Cause} (found : ℕ → Cause) {n m : ℕ} (number : n ≡ m) {r : Bool} (told : Tells c (found n) r) where
-  pub number-first : r ≡ true → Least c (found m) c
-  number-first e = least_first (subst (λ (k : ℕ). Tells c (found k) r) number told) e
-
-  pub number_second : r ≡ false → Least c (found m) (found n)
-  number_second e = subst (λ (k : ℕ). Least c (found k) (found n)) number (least_second told e)
-
 -- a track that the tip comes to
-pub taken : (b : Track) (k : ℕ) {c r : Cause} {t : Touch} {u s : Fraction} {d : Side} → t ≡ Hit u s d → Least c (tip_cause b k u s (side_number d)) r → Taken b k t c r
-taken b k {c} {r} e l = subst (λ (z : Touch). Taken b k z c r) (sym e) l
+pub taken : (b : Track) (k : ℕ) {c r : Cause} {t : Option Touch} {u : Touch} → t ≡ Some u → Least c (tip_cause b k u.at u.there u.side) r → Taken b k t c r
+taken b k {c} {r} e l = subst (λ (z : Option Touch). Taken b k z c r) (sym e) l

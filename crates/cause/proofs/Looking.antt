@@ -1,8 +1,9 @@
 -- Looking at one cause more. Main theorems: `edge_first`, `wall-next`, `tip_looked`, and `walls_then`, `then` (one look after another).
+use mathlib.Core.Bool.{Bool, true, false, true≢false}
 use mathlib.Core.List.{List}
 use mathlib.Core.Logic.{◌⊎◌, inl, inr, ◌≢◌}
 use mathlib.Core.Path.{◌≡◌, refl, sym, ap, ◌∙◌, subst}
-use Prim.Native.Nat.{ℕ, zero, suc, ◌<◌}
+use Prim.Native.Nat.{ℕ, ◌<◌}
 use native.Mathlib.Omega.{arith}
 use lib.ListN.{length}
 use Rattle.fraction.specs.Sizes.{Timely}
@@ -17,7 +18,7 @@ use Rattle.sheet.specs.declared.Wall.{Wall}
 use Rattle.sheet.proofs.Lists.{mem_at, at_mem}
 use Rattle.contact.specs.Answers.{touch_of, TouchTimely, HitFrom}
 use Rattle.contact.specs.declared.Touch.{Touch}
-use Rattle.contact.specs.declared.Touch.TheVariants.{Nowhere, Hit}
+use Rattle.std.specs.Prelude.{Option, Some, None}
 use Rattle.rule.specs.declared.Row.{Row}
 use Rattle.rule.specs.Causes as rule
 use Rattle.rule.specs.Causes.{Cand, by_tip, by_bar, by_rim, Below, ◌≼◌, up_to, end_of}
@@ -25,25 +26,27 @@ use Rattle.rule.specs.declared.Side.{Side}
 use Rattle.rule.specs.Contact.{when, never, hit, contact_to}
 use Rattle.rule.specs.EdgeTime.{rim}
 use Rattle.rule.specs.WallTime.{wall_time}
-use Rattle.rule.specs.Side.{track_side, wall_side, side_number}
+use Rattle.rule.specs.Side.{track_side, wall_side}
 use Rattle.rule.proofs.Existence.{cand_trans}
 use Rattle.rule.proofs.OnSheet.{comes_of, comes_hit}
 use Rattle.rule.specs.Meanwhile.{OpenedBy, Arrives, Formal, Beats, Fresh, Live}
 use Rattle.rule.proofs.Selection.{up_end, end_fresh, until_up}
 use Rattle.rule.proofs.Turn.{beats_better, beats_none, beats_hit}
 use Rattle.cause.specs.declared.Cause.{Cause}
-use Rattle.cause.specs.Cause.{tip_at, wall_at, why_of, cand_of, Fine, Stands, Least}
+use Rattle.cause.specs.declared.Class.{Class}
+use Rattle.cause.specs.declared.Class.TheVariants as class
+use Rattle.cause.specs.Cause.{rank, tip_at, wall_at, why_of, cand_of, Fine, Stands, Least}
 use Rattle.cause.specs.Offer.{edge_cause, AtEdge, wall_cause, WallOffered, passed, struck, tip_cause, end_if, Reached, itself, comes, Taken, TipOffered}
 use Rattle.cause.specs.Looked.{Gone, FirstOfTracks}
 use Rattle.cause.proofs.Answers.{unused_timely, reached_timely}
 use Rattle.cause.proofs.First.{≼_self, first_stands, first-left, first-right}
 
 -- a wall or the edge counts whatever has ended
-pub walls_live : (S : Listing) (done : List Row) (u s : Time) (k who : ℕ) → 0 < k → Live done u (why_of S k who s)
+pub walls_live : (S : Listing) (done : List Row) (u s : Time) (k : Class) (who : ℕ) → 0 < rank k → Live done u (why_of S k who s)
 unfolding why_of
-walls_live S done u s zero who h = absurd (omega arith)
-walls_live S done u s (suc zero) who h = tt
-walls_live S done u s (suc (suc k)) who h = tt
+walls_live S done u s class.Track who h = absurd (omega arith)
+walls_live S done u s class.Wall who h = tt
+walls_live S done u s class.Edge who h = tt
 
 -- what holds of both holds of the first of them
 first_fine : {a b r : Cause} → Fine a → Fine b → Least a b r → Fine r
@@ -55,14 +58,14 @@ first_fine p q (inr (e, h)) = subst Fine (sym e) q
 pub record OfEdge (S : Listing) (a : Track) (c : Cause) : Type 0 where
   pub stands : Stands S a c
   pub at_rim : Below (cand_of S c) (rim a) by_rim
-  pub no_track : 0 < c.class
+  pub no_track : 0 < rank c.class
 
 module _ (S : Listing) (a : Track) where
   edge_stands : (u : Fraction) → Timely u → as_time u ≡ rim a → OfEdge S a (edge_cause u)
-  unfolding why_of side_number
+  unfolding why_of
   edge_stands u h e =
       record {
-        stands = record { fine = record { at = h; there = unused_timely }; formal = e; ranked = refl; named = refl; known = λ z. absurd (omega arith); id_in = omega arith; sided = refl };
+        stands = record { fine = record { at = h; there = unused_timely }; formal = e; ranked = refl; named = refl; known = λ z. absurd (omega arith); sided = refl };
         at_rim = rule.in_id (subst (λ (z : Time). as_time u ≈ᵗ z) e (≈ᵗ_refl (as_time u))) refl (omega arith);
         no_track = omega arith;
       }
@@ -71,14 +74,14 @@ module _ (S : Listing) (a : Track) where
   edge_first e = subst (OfEdge S a) (sym e.is) (edge_stands e.u e.timely e.last)
 
 -- without walls, what is no track is the edge
-pub bare_edge : (S : Listing) (a : Track) (c : Cause) → length S.walls ≡ 0 → Stands S a c → 0 < c.class → cand_of S c ≡ record { u = rim a; why = by_rim }
+pub bare_edge : (S : Listing) (a : Track) (c : Cause) → length S.walls ≡ 0 → Stands S a c → 0 < rank c.class → cand_of S c ≡ record { u = rim a; why = by_rim }
 unfolding why_of
 bare_edge S a c z t h = go c.class h t.formal
   where
-    go : (k : ℕ) → 0 < k → Formal S a (as_time c.at) (why_of S k c.who (as_time c.there)) → ◌≡◌ {A = Cand} (record { u = as_time c.at; why = why_of S k c.who (as_time c.there) }) (record { u = rim a; why = by_rim })
-    go zero l f = absurd (omega arith)
-    go (suc zero) l (m, e) = absurd (let (i, b, x) = at_mem no_wall S.walls (wall_at S c.who) m in omega arith)
-    go (suc (suc k)) l e = ap (λ (u : Time). record { u = u; why = by_rim }) e
+    go : (k : Class) → 0 < rank k → Formal S a (as_time c.at) (why_of S k c.who (as_time c.there)) → ◌≡◌ {A = Cand} (record { u = as_time c.at; why = why_of S k c.who (as_time c.there) }) (record { u = rim a; why = by_rim })
+    go class.Track l f = absurd (omega arith)
+    go class.Wall l (m, e) = absurd (let (i, b, x) = at_mem no_wall S.walls (wall_at S c.who) m in omega arith)
+    go class.Edge l e = ap (λ (u : Time). record { u = u; why = by_rim }) e
 
 -- ---- walls
 
@@ -86,7 +89,7 @@ bare_edge S a c z t h = go c.class h t.formal
 pub record FirstOfSomeWalls (S : Listing) (a : Track) (K : ℕ → Type 0) (c r : Cause) : Type 0 where
   pub stands : Stands S a r
   pub first : cand_of S r ≼ cand_of S c
-  pub no_track : 0 < c.class → 0 < r.class
+  pub no_track : 0 < rank c.class → 0 < rank r.class
   pub at_walls : (j : ℕ) → j < length S.walls → K j → (u : Time) → wall_time a (wall_at S j) ≡ when u → Below (cand_of S r) u (by_bar (wall_at S j))
 
 module _ {S : Listing} {a : Track} {K : ℕ → Type 0} where
@@ -110,7 +113,7 @@ module _ {S : Listing} {a : Track} {K : ℕ → Type 0} where
   walls_none {c} f s = record { stands = s; first = ≼_self (cand_of S c); no_track = λ h. h; at_walls = λ j l k. absurd (f j k) }
 
 module _ (S : Listing) (acc : Accepted S) (a : Track) (k : ℕ) (in_walls : k < length S.walls) where
-  wall_stands : (u : Fraction) → Timely u → wall_time a (wall_at S k) ≡ when (as_time u) → Stands S a (wall_cause (wall_at S k) k u (side_number (wall_side a (wall_at S k))))
+  wall_stands : (u : Fraction) → Timely u → wall_time a (wall_at S k) ≡ when (as_time u) → Stands S a (wall_cause (wall_at S k) k u (wall_side a (wall_at S k)))
   unfolding why_of
   wall_stands u h e =
       record {
@@ -119,11 +122,10 @@ module _ (S : Listing) (acc : Accepted S) (a : Track) (k : ℕ) (in_walls : k < 
         ranked = refl;
         named = refl;
         known = λ z. absurd (omega arith);
-        id_in = (acc.walls_ok (wall_at S k) (mem_at no_wall S.walls k in_walls)).id_in;
         sided = refl;
       }
 
-  wall_hit : {c r : Cause} (u : Fraction) → Stands S a c → wall_time a (wall_at S k) ≡ when (as_time u) → Timely u → Least c (wall_cause (wall_at S k) k u (side_number (wall_side a (wall_at S k)))) r → FirstOfSomeWalls S a (λ (j : ℕ). j ≡ k) c r
+  wall_hit : {c r : Cause} (u : Fraction) → Stands S a c → wall_time a (wall_at S k) ≡ when (as_time u) → Timely u → Least c (wall_cause (wall_at S k) k u (wall_side a (wall_at S k))) r → FirstOfSomeWalls S a (λ (j : ℕ). j ≡ k) c r
   unfolding why_of
   wall_hit {c} {r} u s e h l =
       let w = wall_stands u h e in
@@ -137,9 +139,9 @@ module _ (S : Listing) (acc : Accepted S) (a : Track) (k : ℕ) (in_walls : k < 
             (λ g. let p : as_time u ≡ v = cc in subst (λ (z : Time). Below (cand_of S r) z (by_bar (wall_at S k))) p right) f;
       }
     where
-      go : Least c (wall_cause (wall_at S k) k u (side_number (wall_side a (wall_at S k)))) r → 0 < c.class → 0 < r.class
-      go (inl (x, y)) z = subst (λ (z : Cause). 0 < z.class) (sym x) z
-      go (inr (x, y)) z = subst (λ (z : Cause). 0 < z.class) (sym x) (omega arith)
+      go : Least c (wall_cause (wall_at S k) k u (wall_side a (wall_at S k))) r → 0 < rank c.class → 0 < rank r.class
+      go (inl (x, y)) z = subst (λ (z : Cause). 0 < rank z.class) (sym x) z
+      go (inr (x, y)) z = subst (λ (z : Cause). 0 < rank z.class) (sym x) (omega arith)
 
   wall_none : {c : Cause} → Stands S a c → wall_time a (wall_at S k) ≡ never → FirstOfSomeWalls S a (λ (j : ℕ). j ≡ k) c c
   wall_none {c} s e =
@@ -182,24 +184,24 @@ module _ {S : Listing} {done : List Row} {a : Track} {K : ℕ → Type 0} where
   pub none : {c : Cause} → ((j : ℕ) → K j → ⊥) → Stands S a c → FirstOfTracks S done a K c c
   none {c} f s = record { stands = s; first = ≼_self (cand_of S c); live = λ h. h; at_tips = λ j l k. absurd (f j k) }
 
--- tip b has not ended (`ended` is 0), or has at `end`
-module _ {b : Track} {ended : ℕ} {end : Fraction} {done : List Row} (fresh : ended ≡ 0 → Fresh done b) (gone : (ended ≡ 0 → ⊥) → Gone done b end) where
+-- tip b has not ended, or has at `end`
+module _ {b : Track} {ended : Bool} {end : Fraction} {done : List Row} (fresh : ended ≡ false → Fresh done b) (gone : (ended ≡ false → ⊥) → Gone done b end) where
   -- its end in the rule
   end_is : end_of done b.id ≡ end_if ended end
   unfolding end_if
   end_is = go ended fresh gone
     where
-      go : (n : ℕ) → (n ≡ 0 → Fresh done b) → ((n ≡ 0 → ⊥) → Gone done b end) → end_of done b.id ≡ end_if n end
-      go zero f g = end_fresh done b (f refl)
-      go (suc n) f g = (g (λ z. omega arith)).ends
+      go : (n : Bool) → (n ≡ false → Fresh done b) → ((n ≡ false → ⊥) → Gone done b end) → end_of done b.id ≡ end_if n end
+      go false f g = end_fresh done b (f refl)
+      go true f g = (g true≢false).ends
 
   pub end_opened : OpenedBy b (end_of done b.id)
   unfolding end_if
   end_opened = go ended gone end_is
     where
-      go : (n : ℕ) → ((n ≡ 0 → ⊥) → Gone done b end) → end_of done b.id ≡ end_if n end → OpenedBy b (end_of done b.id)
-      go zero g e = subst (OpenedBy b) (sym e) tt
-      go (suc n) g e = subst (OpenedBy b) (sym e) (g (λ z. omega arith)).closed.opened
+      go : (n : Bool) → ((n ≡ false → ⊥) → Gone done b end) → end_of done b.id ≡ end_if n end → OpenedBy b (end_of done b.id)
+      go false g e = subst (OpenedBy b) (sym e) tt
+      go true g e = subst (OpenedBy b) (sym e) (g true≢false).closed.opened
 
 module _ (S : Listing) (acc : Accepted S) (a : Track) (here : a ∈ S.tracks) (k : ℕ) (in_tracks : k < length S.tracks) where
   abbrev b : Track
@@ -208,7 +210,7 @@ module _ (S : Listing) (acc : Accepted S) (a : Track) (here : a ∈ S.tracks) (k
   there : b ∈ S.tracks
   there = mem_at no_track S.tracks k in_tracks
 
-  tip_stands : (u s : Fraction) → b.id ≢ a.id → Timely u → Timely s → Arrives a b (as_time u) (as_time s) → Stands S a (tip_cause b k u s (side_number (track_side a b)))
+  tip_stands : (u s : Fraction) → b.id ≢ a.id → Timely u → Timely s → Arrives a b (as_time u) (as_time s) → Stands S a (tip_cause b k u s (track_side a b))
   unfolding why_of
   tip_stands u s n h g e =
       record {
@@ -217,12 +219,11 @@ module _ (S : Listing) (acc : Accepted S) (a : Track) (here : a ∈ S.tracks) (k
         ranked = refl;
         named = refl;
         known = λ z. in_tracks;
-        id_in = (acc.tracks_ok b there).id_in;
         sided = refl;
       }
 
-  -- the tip at k has not ended (`ended` is 0), or has at `end`
-  module _ (ended : ℕ) (end : Fraction) (done : List Row) (fresh : ended ≡ 0 → Fresh done b) (gone : (ended ≡ 0 → ⊥) → Gone done b end) where
+  -- the tip at k has not ended, or has at `end`
+  module _ (ended : Bool) (end : Fraction) (done : List Row) (fresh : ended ≡ false → Fresh done b) (gone : (ended ≡ false → ⊥) → Gone done b end) where
     -- nothing more to beat
     tip_skip : {c : Cause} → Stands S a c → (b.id ≢ a.id → Beats done (cand_of S c) a b) → FirstOfTracks S done a (λ (j : ℕ). j ≡ k) c c
     tip_skip {c} s f =
@@ -233,7 +234,7 @@ module _ (S : Listing) (acc : Accepted S) (a : Track) (here : a ∈ S.tracks) (k
           at_tips = λ j i m. subst (λ (i : ℕ). (tip_at S i).id ≢ a.id → Beats done (cand_of S c) a (tip_at S i)) (sym m) f;
         }
 
-    tip_hit : {c r : Cause} (u s : Fraction) → Stands S a c → b.id ≢ a.id → contact_to a b (end_of done b.id) ≡ hit (as_time u) (as_time s) → Timely u → Timely s → Least c (tip_cause b k u s (side_number (track_side a b))) r → FirstOfTracks S done a (λ (j : ℕ). j ≡ k) c r
+    tip_hit : {c r : Cause} (u s : Fraction) → Stands S a c → b.id ≢ a.id → contact_to a b (end_of done b.id) ≡ hit (as_time u) (as_time s) → Timely u → Timely s → Least c (tip_cause b k u s (track_side a b)) r → FirstOfTracks S done a (λ (j : ℕ). j ≡ k) c r
     unfolding why_of
     tip_hit {c} {r} u s p n e h g l =
         let (same, o, ran) = comes_hit (end_of done b.id) (contact_to a b (end_of done b.id)) (comes_of acc here b there n (end_of done b.id) (end_opened fresh gone)) e in
@@ -246,27 +247,27 @@ module _ (S : Listing) (acc : Accepted S) (a : Track) (here : a ∈ S.tracks) (k
           at_tips = λ j i m. subst (λ (i : ℕ). (tip_at S i).id ≢ a.id → Beats done (cand_of S r) a (tip_at S i)) (sym m) (λ y. beats_hit (as_time u) (as_time s) e right);
         }
       where
-        go : Live done (cand_of S c).u (cand_of S c).why → as_time s ≤ᵗ up_to done (as_time u) b.id → Least c (tip_cause b k u s (side_number (track_side a b))) r → Live done (cand_of S r).u (cand_of S r).why
+        go : Live done (cand_of S c).u (cand_of S c).why → as_time s ≤ᵗ up_to done (as_time u) b.id → Least c (tip_cause b k u s (track_side a b)) r → Live done (cand_of S r).u (cand_of S r).why
         go y z (inl (x, _)) = subst (λ (z : Cause). Live done (cand_of S z).u (cand_of S z).why) (sym x) y
         go y z (inr (x, _)) = subst (λ (z : Cause). Live done (cand_of S z).u (cand_of S z).why) (sym x) z
 
-    tip_comes : {c r : Cause} (t : Touch) → Stands S a c → b.id ≢ a.id → touch_of t ≡ contact_to a b (end_of done b.id) → TouchTimely t → HitFrom (track_side a b) t → Taken b k t c r → FirstOfTracks S done a (λ (j : ℕ). j ≡ k) c r
-    tip_comes {c} Nowhere s n e h g l = subst (FirstOfTracks S done a (λ (j : ℕ). j ≡ k) c) (sym l) (tip_skip s (λ x. beats_none (sym e)))
-    tip_comes {c} {r} (Hit u v d) s n e h g l = tip_hit u v s n (sym e) h.0 h.1 (subst (λ (z : Side). Least c (tip_cause b k u v (side_number z)) r) g l)
+    tip_comes : {c r : Cause} (t : Option Touch) → Stands S a c → b.id ≢ a.id → touch_of t ≡ contact_to a b (end_of done b.id) → TouchTimely t → HitFrom (track_side a b) t → Taken b k t c r → FirstOfTracks S done a (λ (j : ℕ). j ≡ k) c r
+    tip_comes {c} None s n e h g l = subst (FirstOfTracks S done a (λ (j : ℕ). j ≡ k) c) (sym l) (tip_skip s (λ x. beats_none (sym e)))
+    tip_comes {c} {r} (Some t) s n e h g l = tip_hit t.at t.there s n (sym e) h.0 h.1 (subst (λ (z : Side). Least c (tip_cause b k t.at t.there z) r) g l)
 
-    tip_taken : {c r : Cause} {t : Touch} → Stands S a c → Reached a b ended end t → Taken b k t c r → FirstOfTracks S done a (λ (j : ℕ). j ≡ k) c r
-    tip_taken {c} {r} s (itself e x) l = subst (FirstOfTracks S done a (λ (j : ℕ). j ≡ k) c) (sym (subst (λ (z : Touch). Taken b k z c r) x l)) (tip_skip s (λ n. absurd (n e)))
+    tip_taken : {c r : Cause} {t : Option Touch} → Stands S a c → Reached a b ended end t → Taken b k t c r → FirstOfTracks S done a (λ (j : ℕ). j ≡ k) c r
+    tip_taken {c} {r} s (itself e x) l = subst (FirstOfTracks S done a (λ (j : ℕ). j ≡ k) c) (sym (subst (λ (z : Option Touch). Taken b k z c r) x l)) (tip_skip s (λ n. absurd (n e)))
     tip_taken {t = t} s (comes n e h g) l = tip_comes t s n (e ∙ ap (contact_to a b) (sym (end_is fresh gone))) h g l
 
     pub tip_looked : {c r : Cause} → Stands S a c → TipOffered a b k ended end c r → FirstOfTracks S done a (λ (j : ℕ). j ≡ k) c r
     tip_looked s o = tip_taken s o.reached o.taken
 
 -- the same of what was read
-pub offered_as : {a a' b b' : Track} {k n n' : ℕ} {end end' : Fraction} {c c' r : Cause} → a ≡ a' → b ≡ b' → n ≡ n' → end ≡ end' → c ≡ c' → TipOffered a b k n end c r → TipOffered a' b' k n' end' c' r
+pub offered_as : {a a' b b' : Track} {k : ℕ} {n n' : Bool} {end end' : Fraction} {c c' r : Cause} → a ≡ a' → b ≡ b' → n ≡ n' → end ≡ end' → c ≡ c' → TipOffered a b k n end c r → TipOffered a' b' k n' end' c' r
 offered_as {a} {a'} {b} {b'} {k} {n} {n'} {end} {end'} {c} {c'} {r} p q m e f o =
     subst (λ (z : Cause). TipOffered a' b' k n' end' z r) f
     (subst (λ (z : Fraction). TipOffered a' b' k n' z c r) e
-    (subst (λ (z : ℕ). TipOffered a' b' k z end c r) m
+    (subst (λ (z : Bool). TipOffered a' b' k z end c r) m
     (subst (λ (z : Track). TipOffered a' z k n end c r) q (subst (λ (z : Track). TipOffered z b k n end c r) p o))))
 
 -- ---- numbers of times, whatever the sheet
@@ -275,9 +276,9 @@ pub wall_fine : {a : Track} {w : Wall} {k : ℕ} {c r : Cause} → Fine c → Wa
 wall_fine p (passed e x) = subst Fine (sym x) p
 wall_fine p (struck u e h l) = first_fine p (record { at = h; there = unused_timely }) l
 
-taken_fine : (b : Track) (k : ℕ) {c r : Cause} (t : Touch) → Fine c → TouchTimely t → Taken b k t c r → Fine r
-taken_fine b k Nowhere p h l = subst Fine (sym l) p
-taken_fine b k (Hit u s d) p h l = first_fine p (record { at = h.0; there = h.1 }) l
+taken_fine : (b : Track) (k : ℕ) {c r : Cause} (t : Option Touch) → Fine c → TouchTimely t → Taken b k t c r → Fine r
+taken_fine b k None p h l = subst Fine (sym l) p
+taken_fine b k (Some t) p h l = first_fine p (record { at = h.0; there = h.1 }) l
 
-pub tip_fine : {a b : Track} {k ended : ℕ} {end : Fraction} {c r : Cause} → Fine c → TipOffered a b k ended end c r → Fine r
+pub tip_fine : {a b : Track} {k : ℕ} {ended : Bool} {end : Fraction} {c r : Cause} → Fine c → TipOffered a b k ended end c r → Fine r
 tip_fine {a} {b} {k} p o = taken_fine b k o.touch p (reached_timely o.reached) o.taken

@@ -13,7 +13,7 @@ use Rattle.rule.specs.Meanwhile.{Beats, Live}
 use Rattle.cause.specs.declared.Cause.{Cause}
 use Rattle.cause.specs.declared.Region.{Region}
 use Rattle.cause.specs.Offer.{Closed}
-use Rattle.cause.specs.Cause.{tip_at, wall_at, cand_of, Stands}
+use Rattle.cause.specs.Cause.{rank, tip_at, wall_at, cand_of, Stands}
 
 -- ---- walls
 
@@ -29,7 +29,7 @@ pub record Near (p : Region) (w : Wall) : Type 0 where
 pub record FirstOfWalls (S : Listing) (a : Track) (p : Region) (c r : Cause) : Type 0 where
   pub stands : Stands S a r
   pub first : cand_of S r ≼ cand_of S c
-  pub no_track : 0 < c.class → 0 < r.class
+  pub no_track : 0 < rank c.class → 0 < rank r.class
   pub at_walls : (j : ℕ) → j < length S.walls → Near p (wall_at S j) → (u : Time) → wall_time a (wall_at S j) ≡ when u → Below (cand_of S r) u (by_bar (wall_at S j))
 
 -- ---- tracks

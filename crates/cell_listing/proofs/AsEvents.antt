@@ -1,10 +1,10 @@
 -- The listing's order is the order in which the grid run's events for the cell leave its queue, up to equal times (SHEETS 6.8, 6.11): `leaves_as_listed` and `listed_as_left`.
 -- They speak of one turn of the run, which takes an event out of the queue (`Happened`, from the contract of `grid_turn::turn`), and of a tip with a point in that cell that has not entered it so far: its own event for it is still to leave.
 -- The cell of a start has no event: it is entered at its start time (`first-entered` of crate `cells`).
+use mathlib.Core.Bool.{Bool-discrete, false}
 use mathlib.Core.Path.{◌≡◌, subst}
 use mathlib.Core.Logic.{◌⊎◌, inl, inr}
 use Prim.Native.Nat.{ℕ, ◌<◌}
-use native.Mathlib.Decide.{ℕ_discrete}
 use lib.ListN.{length}
 use Rattle.fraction.specs.Time.{Time, ◌≤ᵗ◌, ◌<ᵗ◌, ◌≈ᵗ◌}
 use Rattle.fraction.specs.Order.{≤ᵗ_or_<ᵗ, ≈ᵗ_of}
@@ -46,7 +46,7 @@ module _
 
   -- a tip that has ended has entered all cells of its trace, so this one runs
   runs : {σ : Time} → Enters σ → Runs (length S.tracks) w.crowd.tips j
-  runs e = pick (ℕ_discrete (tip_in w.crowd.tips j).ended 0) (λ z. (on_sheet, z)) (λ over. absurd (not_yet ((ended_cells go on_sheet over).all (cell column row) (entered_point e))))
+  runs e = pick (Bool-discrete (tip_in w.crowd.tips j).ended false) (λ z. (on_sheet, z)) (λ over. absurd (not_yet ((ended_cells go on_sheet over).all (cell column row) (entered_point e))))
 
   -- the tip whose event leaves first is listed first
   pub leaves_as_listed : {σ : Time} → Enters σ → Ahead h.tip j ⊎ (time h.first.key ≈ᵗ σ)

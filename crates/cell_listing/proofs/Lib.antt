@@ -13,6 +13,5 @@ pub mod Orders
 pub mod AsEvents
 -- the call
 pub mod Figures
-pub mod Copying
 pub mod Outcome
 pub mod Worked

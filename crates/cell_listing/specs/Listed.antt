@@ -1,12 +1,12 @@
 -- What a call of the cell listing returns, and what the caller's buffer then holds (SHEETS 3.8 to 3.10, 6.10).
-use Rattle.std.specs.Prelude.{◌≡◌, cond, ◌&&◌, List, [], ◌∷◌, ◌++◌, ℕ, ◌*◌, ltb, length}
+use Rattle.std.specs.Prelude.{◌≡◌, cond, ◌&&◌, List, [], ◌∷◌, ◌++◌, ℕ, ◌*◌, ltb, length, Result}
 use Rattle.byte_order.specs.Bytes.{le_bytes}
 use Rattle.sheet.specs.Lent.{and_then, or_short, after}
 use Rattle.sheet.specs.Listing.{Listing}
 use Rattle.sheet.specs.Returned.{Returned, accepted, refused}
 use Rattle.cells.specs.declared.Cell.{Cell}
 use Rattle.cells.specs.Grid.{figure_check}
-use Rattle.sheet.specs.declared.Answer.{Answer}
+use Rattle.sheet.specs.declared.Refusal.{Refusal}
 use Rattle.sheet.specs.Answer.{answered}
 use Rattle.cell_listing.specs.CellIds.{cell_ids}
 
@@ -38,6 +38,6 @@ list_returns v S g column row lent =
     and_then (and_then v (cell_check g column row)) (or_short (id_width * n) lent n)
 
 -- the answer and the buffer's contents at exit (SHEETS 6.10), for a sheet with a verdict and its records
-pub record Lists (v : Returned) (S : Listing) (g column row : ℕ) (before exit : List ℕ) (r : Answer) : Type 0 where
+pub record Lists (v : Returned) (S : Listing) (g column row : ℕ) (before exit : List ℕ) (r : Result ℕ Refusal) : Type 0 where
   pub answer : answered r ≡ list_returns v S g column row (length before)
   pub buffer : exit ≡ after (list_returns v S g column row (length before)) (id_bytes (cell_ids S g (cell column row))) before

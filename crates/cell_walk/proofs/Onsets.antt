@@ -1,4 +1,4 @@
--- What the code's onsets are of the cuts of crate `cells`: `rise_yes` to `fall_no` for one border, `entry_by`, `exit_by`, `arrives` and `never` for a cell.
+-- What the code's onsets are of the cuts of crate `cells`: `rise_yes` to `fall_no` for one border, `entry_by`, `exit_by`, `arrives` and `passes` for a cell.
 use mathlib.Core.Path.{◌≡◌, refl, sym, ap, ap₂, ◌∙◌, subst}
 use mathlib.Core.Bool.{Bool, true, false, cond}
 use Prim.Native.Nat.{ℕ, suc, pred, ◌+◌, ◌*◌, ◌-◌, ◌≤◌, ◌<◌}
@@ -21,7 +21,7 @@ use Rattle.cells.specs.OneCell.{border, enter, leave, entryᵃ, exitᵃ, entry, 
 use Rattle.cells.proofs.Border.{Numbers, start_numbers, up_start, down-start, up_numbers, down_numbers}
 use Rattle.cells.proofs.Entry.{has_point_true, point_den}
 use Rattle.cell_walk.specs.declared.Onset.{Onset}
-use Rattle.cell_walk.specs.declared.Arrival.TheVariants.{At, Never}
+use Rattle.std.specs.Prelude.{Some, None}
 use Rattle.cell_walk.specs.Arrivals.{arrival_of, Arrives}
 use Rattle.cell_walk.specs.Onsets.{onset, onset_of, Ready, Early, Gives, GivesEarly, prior_of, later_of, sooner_of, opened_of, fall}
 
@@ -151,15 +151,15 @@ module _ (a : Track) (s : ℕ) (k : Cell) where
     told : b ≡ has_point a (as_time t) s k
     told = f ∙ ap₂ prior_of g.is (e ∙ ap (λ (z : Onset). sooner_of z (onset t 1)) h.is) ∙ has_is t p.den_pos
 
-    pub arrives : b ≡ true → Arrives a (as_time t) s k (At i.at)
+    pub arrives : b ≡ true → Arrives a (as_time t) s k (Some i.at)
     unfolding arrival_of
     arrives u =
         let y = sym told ∙ u in
         record {
-          is = rw y (ap (λ (z : Onset). At z.at) g.is);
+          is = rw y (ap (λ (z : Onset). Some z.at) g.is);
           comparable = record { num_in = g.ready.num_in; den_in = g.ready.den_in; den_pos = subst (λ (z : Onset). 0 < z.at.den) (sym g.is) (point_den (has_point_true y)) };
         }
 
-    pub never : b ≡ false → Arrives a (as_time t) s k Never
+    pub passes : b ≡ false → Arrives a (as_time t) s k None
     unfolding arrival_of
-    never u = record { is = rw (sym told ∙ u) refl; comparable = tt }
+    passes u = record { is = rw (sym told ∙ u) refl; comparable = tt }

@@ -15,6 +15,7 @@ use fraction::{Fraction, Sign};
 use sheet::Track;
 
 // The time at which a part of time begins: with that time itself (late is 0), or just after it (late is 1). 1 / 0 is never. Within this file also of a tip's ages.
+// `late` is a number and no `bool`, since the comparison adds it.
 #[derive(Clone, Copy)]
 pub struct Onset {
     pub at: Fraction,
@@ -33,13 +34,6 @@ pub enum Heading {
 pub struct Crossing {
     pub when: Onset,
     pub cell: Cell,
-}
-
-// The time at which a trace enters a cell, if it has a point there.
-#[derive(Clone, Copy)]
-pub enum Arrival {
-    At(Fraction),
-    Never,
 }
 
 fn heading_of(v: i8) -> Heading
@@ -109,7 +103,7 @@ fn rising(x: u64, w: u64, b: u64) -> Onset
     }
 }
 
-// The same of a tip that goes down at w: it is past the border only below it.
+// The same of a tip that goes down at w: it is past the border only below it. Apart from `rising`, since one function of both has the same four cases.
 fn falling(x: u64, w: u64, b: u64) -> Onset
     requires { (x ≤ 4095) × (0 < w) × (w ≤ 63) × (b ≤ 21000000) }
     ensures { GivesEarly (onset_of (border x (fall w) b)) result }
@@ -126,7 +120,8 @@ fn falling(x: u64, w: u64, b: u64) -> Onset
     }
 }
 
-// The age at which a tip with this start and speed enters column `col` of side s, and at which it leaves it.
+// The age at which a tip with this start and speed enters column `col` of side s, and at which it leaves it: the two borders
+// change places, and a function of both with a flag is no plainer.
 fn column_entry(x: u16, v: i8, s: u64, col: u64) -> Onset
     requires { (x ≤ 4095) × (nat_abs v ≤ 63) × (s ≤ 4096) × (col ≤ 5000) }
     ensures { GivesEarly (onset_of (enter x v s col)) result }
@@ -172,7 +167,7 @@ fn cell_exit(a: Track, s: u64, k: Cell) -> Onset
 }
 
 // When the trace up to `end` enters the cell (SHEETS 6.4). It has a point there if the cell is entered before it is left and before the trace's end.
-pub fn arrives(a: Track, end: Fraction, s: u64, k: Cell) -> Arrival
+pub fn arrives(a: Track, end: Fraction, s: u64, k: Cell) -> Option<Fraction>
     requires { TrackOk a × Timely end × (s ≤ 4096) × Near k }
     ensures { Arrives a (as_time end) s k result }
 {
@@ -180,10 +175,10 @@ pub fn arrives(a: Track, end: Fraction, s: u64, k: Cell) -> Arrival
     let entry = cell_entry(a, s, k);
     let exit = cell_exit(a, s, k);
     if prior(entry, sooner(exit, past)) {
-        let at = entry.at;
-        return Arrival::At(at);
+        Some(entry.at)
+    } else {
+        None
     }
-    Arrival::Never
 }
 
 fn onward(v: i8, col: u64) -> u64

@@ -13,17 +13,11 @@ pub struct NextRows {
     pub running: usize,
 }
 
-fn least(a: usize, b: usize) -> usize
-    ensures { result ≡ min a b }
-{
-    if a < b { a } else { b }
-}
-
 // The number still running: the rows of a roll that are not yet shown, none where more are shown than it has (SHEETS 7.4, 7.5).
 pub fn left(rows: usize, shown: usize) -> usize
     ensures { result ≡ rows - shown }
 {
-    rows - least(shown, rows)
+    rows.saturating_sub(shown)
 }
 
 // Past n rows, or past those left if fewer (SHEETS 7.2). `shown + n` may exceed the machine's word: it is never computed.
@@ -32,7 +26,7 @@ pub fn step(rows: usize, shown: usize, n: usize) -> NextRows
 {
     let left = left(rows, shown);
     let from = rows - left;
-    let count = least(n, left);
+    let count = n.min(left);
     NextRows {
         from,
         count,

@@ -1,10 +1,10 @@
 -- What the tips say when the tip at i ends. Main theorem: `ends_next`.
+use mathlib.Core.Bool.{true, false, true≢false, Bool-discrete}
 use mathlib.Core.List.Memᴰ
 use mathlib.Core.List.{List, ◌∷◌}
 use mathlib.Core.Logic.{◌⊎◌, inl, inr, ◌≢◌}
 use mathlib.Core.Path.{◌≡◌, refl, sym, ap, ◌∙◌, subst}
 use Prim.Native.Nat.{ℕ, suc, pred, ◌<◌}
-use native.Mathlib.Decide.{ℕ_discrete}
 use native.Mathlib.Omega.{arith}
 use lib.ListN.{length}
 use Rattle.fraction.specs.Sizes.{Timely}
@@ -22,22 +22,23 @@ use Rattle.rule.proofs.Tests.{eqb_self}
 use Rattle.cause.specs.Cause.{tip_at, cand_of, Fine}
 use Rattle.cause.specs.Offer.{Closed}
 use Rattle.cause.specs.Looked.{Gone}
-use Rattle.tips.specs.Tips.{Tip, tip_in, at-time}
+use Rattle.tips.specs.declared.Tip.{Tip}
+use Rattle.tips.specs.Tips.{tip_in, at-time}
 use Rattle.look.specs.Ends.{end_of, Ends}
 use Rattle.tips.proofs.Put.{at_put}
 use Rattle.ending.specs.Finished.{finish}
 use Rattle.ending.proofs.Ended.{apart}
 
 -- a tip without a row runs
-pub runs_on : {S : Listing} {ts : List Tip} {done : List Row} → Ends S ts done → (j : ℕ) → j < length S.tracks → Fresh done (tip_at S j) → (tip_in ts j).ended ≡ 0
-runs_on {S} {ts} {done} e j h f = go (ℕ_discrete (tip_in ts j).ended 0)
+pub runs_on : {S : Listing} {ts : List Tip} {done : List Row} → Ends S ts done → (j : ℕ) → j < length S.tracks → Fresh done (tip_at S j) → (tip_in ts j).ended ≡ false
+runs_on {S} {ts} {done} e j h f = go (Bool-discrete (tip_in ts j).ended false)
   where
-    go : Dec ((tip_in ts j).ended ≡ 0) → (tip_in ts j).ended ≡ 0
+    go : Dec ((tip_in ts j).ended ≡ false) → (tip_in ts j).ended ≡ false
     go (yes x) = x
     go (no x) = let g = e.ended j h x in absurd (f g.row g.written g.named)
 
 abbrev pub over : Tip → Tip
-over t = record { best = at-time t.best (low (end_of t)); base = t.base; ended = 1; cell = t.cell }
+over t = record { best = at-time t.best (low (end_of t)); base = t.base; ended = true; cell = t.cell }
 
 pub over_fine : (t : Tip) → Fine t.best → Fine (over t).best
 over_fine t f =
@@ -94,9 +95,9 @@ module _ {S : Listing} (acc : Accepted S) {ts : List Tip} {done : List Row} (e :
     ends_next =
         record {
           running =
-              at_put (λ (j : ℕ) (t : Tip). j < length S.tracks → t.ended ≡ 0 → Fresh (row ∷ done) (tip_at S j)) ts i (over (tip_in ts i)) room (λ h x. absurd (omega (arith, x)))
+              at_put (λ (j : ℕ) (t : Tip). j < length S.tracks → t.ended ≡ false → Fresh (row ∷ done) (tip_at S j)) ts i (over (tip_in ts i)) room (λ h x. absurd (true≢false x))
               (λ j n h x. fresh_next j h n (e.running j h x));
           ended =
-              at_put (λ (j : ℕ) (t : Tip). j < length S.tracks → (t.ended ≡ 0 → ⊥) → Gone (row ∷ done) (tip_at S j) t.best.at) ts i (over (tip_in ts i)) room (λ h x. gone-here)
+              at_put (λ (j : ℕ) (t : Tip). j < length S.tracks → (t.ended ≡ false → ⊥) → Gone (row ∷ done) (tip_at S j) t.best.at) ts i (over (tip_in ts i)) room (λ h x. gone-here)
               (λ j n h x. gone-next j h n (e.ended j h x));
         }

@@ -2,4 +2,3 @@ pub mod Endings
 pub mod Ended
 pub mod Ends
 pub mod Rolling
-pub mod Finishing

@@ -5,10 +5,10 @@ use Rattle.sheet.specs.Listing.{Listing}
 use Rattle.rule.specs.declared.Ending.{Ending}
 use Rattle.rule.specs.Causes.{low}
 use Rattle.rule.specs.RowBytes.{row_bytes, row_width}
-use Rattle.rule.specs.Side.{side_from}
 use Rattle.row.specs.RowAt.{row_at}
 use Rattle.cause.specs.Cause.{tip_at}
-use Rattle.tips.specs.Tips.{Tip, tip_in, with_end}
+use Rattle.tips.specs.declared.Tip.{Tip}
+use Rattle.tips.specs.Tips.{tip_in, with_end}
 use Rattle.look.specs.Ends.{end_of}
 use Rattle.ending.specs.Ended.{Endable}
 
@@ -29,4 +29,4 @@ finish ts i = with_end ts i (low (end_of (tip_in ts i)))
 -- its end is noted, and its row is at place k
 pub record Finished (S : Listing) (i k : ℕ) (e : Ending) (ts : List Tip) (out : List ℕ) (ts' : List Tip) (out' : List ℕ) : Type 0 where
   pub noted : ts' ≡ finish ts i
-  pub written : out' ≡ sets out (row_width * k) (row_bytes (row_at (tip_at S i) (end_of (tip_in ts i)) e (side_from (tip_in ts i).best.side)))
+  pub written : out' ≡ sets out (row_width * k) (row_bytes (row_at (tip_at S i) (end_of (tip_in ts i)) e (tip_in ts i).best.side))

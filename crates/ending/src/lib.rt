@@ -2,59 +2,56 @@
 #![tactic(auto)]
 
 ghost use Rattle.std.specs.Prelude.{◌≡◌, ◌+◌, ◌≤◌};
-ghost use Rattle.cause.specs.Cause.{Fine};
-ghost use Rattle.records.specs.Records.{Recorded, sheet_in};
-ghost use Rattle.tips.specs.Tips.{Room, tips_in};
+ghost use Rattle.cause.specs.Cause.{rank, Fine};
+ghost use Rattle.records.specs.SheetIn.{sheet_in};
+ghost use Rattle.tips.specs.Tips.{tips_in};
 ghost use Rattle.ending.specs.Ended.{EndingOf};
 ghost use Rattle.ending.specs.Finished.{RoomFor, MayEnd, Finished};
 
-use cause::Cause;
+use cause::{Cause, Class};
+use records::Records;
 use rule::Ending;
+use tips::Tips;
 
 // How a track of this id ends a tip: they meet, or the track was there before.
 pub fn by_track(c: Cause, id: u16) -> Ending
-    requires { Fine c × (c.class ≡ 0) × (c.id ≡ id) }
+    requires { Fine c × (rank c.class ≡ 0) × (c.id ≡ id) }
     ensures { EndingOf c result }
 {
-    let at = c.at;
-    let there = c.there;
-    if fraction::not_later(at, there) {
-        return Ending::Meeting(id);
+    if fraction::not_later(c.at, c.there) {
+        Ending::Meeting(id)
+    } else {
+        Ending::ByTrack(id)
     }
-    Ending::ByTrack(id)
 }
 
 // How a cause ends a tip.
 pub fn ending_of(c: Cause) -> Ending
-    requires { Fine c × (c.id ≤ 65535) }
+    requires { Fine c }
     ensures { EndingOf c result }
 {
-    let id = c.id as u16;
-    if c.class == 0 {
-        return by_track(c, id);
+    match c.class {
+        Class::Track => by_track(c, c.id),
+        Class::Wall => Ending::ByWall(c.id),
+        Class::Edge => Ending::Edge,
     }
-    if c.class == 1 {
-        return Ending::ByWall(id);
-    }
-    Ending::Edge
 }
 
 // The tip at i ends by its cause; its row comes after the `rows` that are out.
 pub fn end_tip(
-    records: &[u16],
+    records: &Records,
     i: usize,
     ending: Ending,
     rows: usize,
-    tips: &mut [u64],
+    tips: &mut Tips,
     out: &mut [u8],
 ) -> usize
-    requires { Recorded records.now × Room tips.old × MayEnd (sheet_in records.now) i rows (tips_in tips.old) × RoomFor (sheet_in records.now) out.old }
+    requires { MayEnd (sheet_in records.now) i rows (tips_in tips.old) × RoomFor (sheet_in records.now) out.old }
     ensures { (result ≡ rows + 1) × Finished (sheet_in records.now) i rows ending (tips_in tips.old) out.old (tips_in tips.new) out.new }
 {
-    let a = records::track_at(records, i);
-    let side = tips::side_of(tips, i);
-    let row = row::row_of(a, tips::end_of(tips, i), ending, side);
+    let tip = &tips.all[i];
+    let row = row::row_of(records.tracks()[i], tip.best.at, ending, tip.best.side);
     row::put_row(out, row::WIDTH * rows, row);
-    tips::put_end(tips, i, row.at);
+    tips.end(i, row.at);
     rows + 1
 }

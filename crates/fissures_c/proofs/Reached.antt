@@ -1,5 +1,5 @@
--- What is returned at each way out, as numbers: `left`, `left-two`, `left-four`. Writing what was read is writing the sheet's ordered form
--- (`as_written`). A count goes with rows only (`counted`, `not_counted`).
+-- Writing what was read is writing the sheet's ordered form (`as_written`), and what is refused is not written (`not-read`). A count goes with rows
+-- only (`counted`, `not_counted`).
 use mathlib.Core.Path.{◌≡◌, refl, sym, ap, ◌∙◌, subst}
 use mathlib.Core.List.{List}
 use Prim.Native.Nat.{ℕ}
@@ -17,40 +17,20 @@ use Rattle.sheet.proofs.RoundTrip.{written_read}
 use Rattle.sheet_reader.specs.Reading.{records_of, if_accepted}
 use Rattle.sheet_writer.specs.Written.{form_of, write_of, buffer_after}
 use Rattle.grid_run.specs.GridRolled.{with_rows}
-use Rattle.c_answers.specs.Answers.{number, other, told}
-use Rattle.fissures_c.specs.Calls.{order_returns, order_call, count_after}
-
--- these two numbers were told
-abbrev pub Told : ℕ → ℕ → Returned → Type 0
-Told r second Q = ◌≡◌ {A = ℕ × ℕ} (r, second) (told Q)
-
--- of Q, which is R
-module _ {r second : ℕ} {Q R : Returned} (t : Told r second Q) (e : Q ≡ R) where
-  pub left-two : ◌≡◌ {A = ℕ × ℕ} (r, second) (told R)
-  left-two = t ∙ ap told e
-
-  pub left : {x y : List ℕ} → x ≡ y → ◌≡◌ {A = ℕ × ℕ × List ℕ} (r, second, x) (number R, other R, y)
-  left f = λ i. ((left-two i).0, (left-two i).1, f i)
-
-  pub left-four : {A B : Type 0} {a b : A} {x y : B} → a ≡ b → x ≡ y → ◌≡◌ {A = ℕ × ℕ × A × B} (r, second, a, x) (number R, other R, b, y)
-  left-four f g = λ i. ((left-two i).0, (left-two i).1, f i, g i)
+use Rattle.fissures_c.specs.Calls.{order_returns, count_after}
 
 -- ---- reading and writing
 
 module _ (s lent : List ℕ) where
-  pub not-read : {r second n p : ℕ} → Told r second (refused n p) → refused n p ≡ verdict_of s → (r, second, lent) ≡ order_call s lent
-  not-read t e =
-      let w = ordered_form (records_of s) in
-      let (a, b) = ending.as_refused w lent (length w) (length w) (sym e) in
-      left t a b
+  pub not-read : {n p : ℕ} → verdict_of s ≡ refused n p → (refused n p ≡ order_returns s (length lent)) × (lent ≡ after (order_returns s (length lent)) (ordered_form (records_of s)) lent)
+  not-read e = let w = ordered_form (records_of s) in ending.as_refused w lent (length w) (length w) e
 
-  pub as_written : AllBytes s → verdict_of s ≡ accepted → {sheet : Sheet} → sheet ≡ sheet_of (records_of s) → (write_of sheet (length lent) ≡ order_returns s (length lent)) × (buffer_after sheet lent ≡ after (order_returns s (length lent)) (ordered_form (records_of s)) lent)
+  pub as_written : AllBytes s → verdict_of s ≡ accepted → {sheet : Sheet} → sheet ≡ sheet_of (listing (commands_of s)) → (write_of sheet (length lent) ≡ order_returns s (length lent)) × (buffer_after sheet lent ≡ after (order_returns s (length lent)) (ordered_form (records_of s)) lent)
   as_written b e {sheet} q =
       let S = listing (commands_of s) in
-      let z : sheet ≡ sheet_of S = q ∙ ap (λ v. sheet_of (if_accepted v S)) e in
       let w = written_read s b e in
-      let f : form_of sheet ≡ ordered_form (records_of s) = ap form_of z ∙ w.written ∙ ap (λ v. ordered_form (if_accepted v S)) (sym e) in
-      let r : write_of sheet (length lent) ≡ order_returns s (length lent) = (λ i. and_then ((ap check_of z ∙ w.checked ∙ sym e) i) (or_short (length (f i)) (length lent) (length (f i)))) in
+      let f : form_of sheet ≡ ordered_form (records_of s) = ap form_of q ∙ w.written ∙ ap (λ v. ordered_form (if_accepted v S)) (sym e) in
+      let r : write_of sheet (length lent) ≡ order_returns s (length lent) = (λ i. and_then ((ap check_of q ∙ w.checked ∙ sym e) i) (or_short (length (f i)) (length lent) (length (f i)))) in
       (r, λ i. after (r i) (f i) lent)
 
 -- ---- the count of cells

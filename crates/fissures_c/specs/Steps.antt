@@ -1,17 +1,17 @@
 -- A session as a slice of numbers, of which the first is the number of rows shown, and what each call on one leaves; a name as numbers (SHEETS 11.3 to 11.5).
-use Rattle.std.specs.Prelude.{cond, ◌≡◌, List, [], ◌∷◌, ℕ, ◌+◌, ◌*◌, min, ltb, length, take, drop, get_or}
+use Rattle.std.specs.Prelude.{cond, ◌≡◌, Result, Ok, Err, List, [], ◌∷◌, ℕ, ◌+◌, ◌*◌, min, ltb, length, take, drop, get_or}
 use Rattle.sheet.specs.Lent.{and_then, or_short, after}
-use Rattle.sheet.specs.Returned.{Returned, accepted, gives, refused, verdict}
+use Rattle.sheet.specs.Returned.{Returned, accepted, gives, refused, refusal}
+use Rattle.sheet.specs.declared.Refusal.{Refusal}
 use Rattle.sheet.specs.HandedIn.{sheet_of}
 use Rattle.sheet.specs.Listing.{listing}
 use Rattle.sheet.specs.Scan.{verdict_of, commands_of}
-use Rattle.sheet_reader.specs.Reading.{records_of}
 use Rattle.rule.specs.declared.Ending.{Ending}
 use Rattle.rule.specs.declared.Ending.TheVariants.{Edge}
 use Rattle.rule.specs.declared.Row.{Row}
 use Rattle.rule.specs.RowBytes.{roll_bytes, row_width}
 use Rattle.rule.specs.Selection.{roll_of}
-use Rattle.session.specs.declared.Begun.{Begun}
+use Rattle.session.specs.declared.Session.{Session}
 use Rattle.row.specs.Stored.{ending_from}
 use Rattle.names.specs.Partner.{Part, of_tracks, of_walls, partner_name}
 use Rattle.c_answers.specs.Answers.{number, other, told, leaves}
@@ -33,16 +33,23 @@ session_fits session = cond (ltb (length session) session_size) (refused 12 sess
 abbrev pub judge : List ℕ → List ℕ → Returned
 judge s session = and_then (verdict_of s) (session_fits session)
 
--- the session that a sheet and a slice stand for, with what is refused
-pub record Takes (s session : List ℕ) (r : Begun) : Type 0 where
-  pub answer : verdict r.answer ≡ judge s session
-  pub held : judge s session ≡ accepted → r.session ≡ record { sheet = sheet_of (records_of s); shown = shown session }
+-- the session that an accepted sheet and a slice stand for
+abbrev pub session_of : List ℕ → List ℕ → Session
+session_of s session = record { sheet = sheet_of (listing (commands_of s)); shown = shown session }
+
+-- that session, or what is refused
+abbrev pub Takes : List ℕ → List ℕ → Result Session Refusal → Type 0
+Takes s session (Ok t) = (judge s session ≡ accepted) × (t ≡ session_of s session)
+Takes s session (Err r) = judge s session ≡ refusal r
 
 -- ---- its calls
 
 -- open and reset: no row shown (SHEETS 7.1, 7.3, 11.4)
+abbrev pub start_gives : List ℕ → List ℕ → Returned
+start_gives s session = and_then (judge s session) (gives 0)
+
 abbrev pub start_call : List ℕ → List ℕ → ℕ × ℕ × List ℕ
-start_call s session = leaves (and_then (judge s session) (gives 0)) (0 ∷ []) session
+start_call s session = leaves (start_gives s session) (0 ∷ []) session
 
 abbrev pub roll_of_bytes : List ℕ → List Row
 roll_of_bytes s = roll_of (listing (commands_of s))
@@ -64,8 +71,11 @@ advance_call s session n out =
     (number R, other R, after R (shown_then s session n ∷ []) session, after R (roll_bytes (rows_behind s session n)) out)
 
 -- the rows not yet shown (SHEETS 7.4)
+abbrev pub running_gives : List ℕ → List ℕ → Returned
+running_gives s session = and_then (judge s session) (gives (length (drop (shown session) (roll_of_bytes s))))
+
 abbrev pub running_call : List ℕ → List ℕ → ℕ × ℕ
-running_call s session = told (and_then (judge s session) (gives (length (drop (shown session) (roll_of_bytes s)))))
+running_call s session = told (running_gives s session)
 
 -- ---- a name
 

@@ -14,7 +14,7 @@ pub struct Fraction {
     pub den: u64,
 }
 
-// An integer by its sign, with its size.
+// An integer by its sign, with its size: three cases, each with its own number or none.
 #[derive(Clone, Copy)]
 pub enum Sign {
     Minus(u64),
@@ -29,9 +29,7 @@ fn common(a: u64, b: u64) -> u64
     let mut x = a;
     let mut y = b;
     while 0 < y {
-        let t = x % y;
-        x = y;
-        y = t;
+        (x, y) = (y, x % y);
     }
     x
 }
@@ -49,7 +47,7 @@ pub fn reduce(t: Fraction) -> Fraction
     Fraction { num, den }
 }
 
-// a is no later than b.
+// a is no later than b. No `PartialOrd`: a trait's comparison has no `requires`, and the products fit 64 bits only of timely fractions.
 pub fn not_later(a: Fraction, b: Fraction) -> bool
     requires { Timely a × Timely b }
     ensures { result ≡ not_later a b }

@@ -1,7 +1,7 @@
 -- The tips begin, one after another. Main theorems: `starts` (the next is on its way into the cell of its start), `started` (and is there).
 use mathlib.Core.List.{List, []}
 use mathlib.Core.Path.{◌≡◌, refl, sym, ap, ◌∙◌, subst}
-use Prim.Native.Nat.{ℕ, ◌+◌, ◌/◌, ◌≤◌, ◌<◌}
+use Prim.Native.Nat.{ℕ, ◌+◌, ◌/◌, ◌<◌}
 use native.Mathlib.Omega.{arith}
 use lib.ListN.{length}
 use Rattle.sheet.specs.declared.Track.{Track}
@@ -13,8 +13,9 @@ use Rattle.cause.proofs.Looking.{OfEdge, edge_first}
 use Rattle.cells.specs.declared.Cell.{Cell}
 use Rattle.cells.specs.Grid.{Figure, g1, g2, g4, g8, g16, g32, side}
 use Rattle.cells.specs.Walk.{first}
-use Rattle.tips.specs.Tips.{Tip, with_best, with_base}
-use Rattle.grid_state.specs.Sweep.{Sweep, Swept}
+use Rattle.tips.specs.declared.Tip.{Tip}
+use Rattle.tips.specs.Tips.{with_best, with_base}
+use Rattle.grid_state.specs.Sweep.{Sweep}
 use Rattle.grid_state.specs.Meeting.{Enters}
 use Rattle.grid_state.specs.Run.{Way, WayOf, Starting}
 use Rattle.grid_state.proofs.Figures.{figure_in}
@@ -61,7 +62,3 @@ module _ {S : Listing} {g i : ℕ} {w : Sweep} (st : Starting S g i w) (more : i
       start-next st more of_edge
       (subst (λ (z : List Tip). Enters S (side g) i (first (tip_at S i) (side g)) (having w z) w') stored
       (subst (λ (z : Cell). Enters S (side g) i z (having w t') w') start (subst (λ (z : ℕ). Enters S z i k (having w t') w') (side_is g) e)))
-
--- the loop's end
-pub all-begun : {S : Listing} {g n i : ℕ} {t q k m : List ℕ} → n ≡ length S.tracks → n ≤ i → (i ≤ n) × Swept (Starting S g i) t q k m → Swept (Starting S g (length S.tracks)) t q k m
-all-begun {S} {g} {n} {i} {t} {q} {k} {m} e h (l, st) = subst (λ (z : ℕ). Swept (Starting S g z) t q k m) (omega arith) st

@@ -2,74 +2,56 @@
 #![tactic(auto)]
 
 ghost use Rattle.std.specs.Prelude.{◌+◌, ◌<◌, length};
-ghost use Rattle.records.specs.Records.{Recorded, sheet_in};
-ghost use Rattle.grid_state.specs.Sweep.{sweep_in, Swept};
+ghost use Rattle.records.specs.SheetIn.{sheet_in};
+ghost use Rattle.grid_state.specs.Sweep.{sweep_in};
 ghost use Rattle.grid_state.specs.Meeting.{Enters};
 ghost use Rattle.grid_state.specs.Run.{Way, Starting};
 
+use cell_members::Members;
 use cells::Cell;
+use grid_state::Watch;
+use records::Records;
 
 // The tip at i enters cell k.
 pub fn enter(
-    records: &[u16],
+    records: &Records,
     side: u64,
     i: usize,
     k: Cell,
-    tips: &mut [u64],
-    queue: &mut [u64],
-    marks: &mut [u8],
-    members: &mut [u16],
+    watch: &mut Watch,
+    members: &mut Members,
 )
-    requires { Recorded records.now × Swept (Way (sheet_in records.now) side i k) tips.old queue.old marks.old members.old }
-    ensures { Swept (Enters (sheet_in records.now) side i k (sweep_in tips.old queue.old marks.old members.old))
-        tips.new queue.new marks.new members.new }
+    requires { Way (sheet_in records.now) side i k (sweep_in watch.old members.old) }
+    ensures { Enters (sheet_in records.now) side i k (sweep_in watch.old members.old) (sweep_in watch.new members.new) }
 {
     let cell = (32 * k.column + k.row) as usize;
-    grid_steps::look_here(records, side, k, i, tips);
-    grid_meet::meet(records, side, i, members, cell, tips, queue, marks);
-    cell_members::join(members, cell, i);
-    tips::put_cell(tips, i, k);
-    grid_steps::schedule(records, side, i, tips, queue);
+    grid_steps::look_here(records, side, k, i, &mut watch.tips);
+    grid_meet::meet(records, side, i, members, cell, watch);
+    members.join(cell, i);
+    watch.tips.all[i].cell = k;
+    grid_steps::schedule(records, side, i, &watch.tips, &mut watch.queue);
 }
 
 // The tip at i begins, in the cell of its start.
-fn start_tip(
-    records: &[u16],
-    g: u64,
-    i: usize,
-    tips: &mut [u64],
-    queue: &mut [u64],
-    marks: &mut [u8],
-    members: &mut [u16],
-)
-    requires { Recorded records.now × (i < length (sheet_in records.now).tracks) × Swept (Starting (sheet_in records.now) g i) tips.old queue.old marks.old members.old }
-    ensures { Swept (Starting (sheet_in records.now) g (i + 1)) tips.new queue.new marks.new members.new }
+fn start_tip(records: &Records, g: u64, i: usize, watch: &mut Watch, members: &mut Members)
+    requires { (i < length (sheet_in records.now).tracks) × Starting (sheet_in records.now) g i (sweep_in watch.old members.old) }
+    ensures { Starting (sheet_in records.now) g (i + 1) (sweep_in watch.new members.new) }
 {
     let side = 4096 / g;
-    let a = records::track_at(records, i);
+    let a = records.tracks()[i];
     let c = cause::edge_cause(a);
-    tips::put_base(tips, i, c);
-    tips::put_best(tips, i, c);
+    watch.tips.all[i].base = c;
+    watch.tips.all[i].best = c;
     let k = cell_walk::first_cell(a, side);
-    enter(records, side, i, k, tips, queue, marks, members);
+    enter(records, side, i, k, watch, members);
 }
 
 // All tips begin.
-pub fn begin(
-    records: &[u16],
-    g: u64,
-    tips: &mut [u64],
-    queue: &mut [u64],
-    marks: &mut [u8],
-    members: &mut [u16],
-)
-    requires { Recorded records.now × Swept (Starting (sheet_in records.now) g 0) tips.old queue.old marks.old members.old }
-    ensures { Swept (Starting (sheet_in records.now) g (length (sheet_in records.now).tracks)) tips.new queue.new marks.new members.new }
+pub fn begin(records: &Records, g: u64, watch: &mut Watch, members: &mut Members)
+    requires { Starting (sheet_in records.now) g 0 (sweep_in watch.old members.old) }
+    ensures { Starting (sheet_in records.now) g (length (sheet_in records.now).tracks) (sweep_in watch.new members.new) }
 {
-    let n = records::track_count(records);
-    let mut i: usize = 0;
-    while i < n {
-        start_tip(records, g, i, tips, queue, marks, members);
-        i += 1;
+    for i in 0..records.tracks().len() {
+        start_tip(records, g, i, watch, members);
     }
 }

@@ -1,4 +1,5 @@
 -- One sheet, one roll (SHEETS 10.1, 10.2): `demand`; `demand_bytes` for a sheet's bytes, `demand_records` for records handed in. The statement is specs/Demand.antt.
+use Rattle.std.specs.Prelude.{Result, Ok, Err}
 use mathlib.Core.Path.{◌≡◌, refl, sym, ap, ◌∙◌, subst}
 use mathlib.Core.Bool.{Bool, true, false}
 use mathlib.Core.List.{List, ◌++◌}
@@ -33,11 +34,10 @@ use Rattle.cells.specs.Grid.{Figure}
 use Rattle.cells.specs.CellsEntered.{cells_entered}
 use Rattle.cells.proofs.CellsEntered.{is_counted, the_count, trace_few, count_few, count_same}
 use Rattle.cells.proofs.Figures.{figure_is}
-use Rattle.sheet.specs.declared.Answer.{Answer}
+use Rattle.sheet.specs.declared.Refusal.{Refusal}
 use Rattle.sheet.specs.Answer.{answered}
 use Rattle.plain_run.specs.Rolled.{needed, roll_returns, Rolls}
-use Rattle.grid_run.specs.declared.GridRolled.{GridRolled}
-use Rattle.grid_run.specs.declared.GridRolled.TheVariants.{Rows, Refused}
+use Rattle.grid_run.specs.declared.GridRoll.{GridRoll}
 use Rattle.grid_run.specs.GridRolled.{Reported, grid_rolled, with_rows, GridRolls}
 use Rattle.grid_run.specs.Demand.{Given, Outcome, too_short, written, Reports, Demand3}
 use Rattle.grid_run.proofs.Given.{given_accepted, given_records}
@@ -86,12 +86,12 @@ module _ (l : List Command) (acc : Accepted (listing l)) where
     p : Reordered S T
     p = given_records acc i
 
-    plainly : (before exit : List ℕ) (r : Answer) → Rolls v T before exit r → Outcome (roll_of S) before exit (answered r)
+    plainly : (before exit : List ℕ) (r : Result ℕ Refusal) → Rolls v T before exit r → Outcome (roll_of S) before exit (answered r)
     plainly before exit r h =
         let k = subst (λ (z : Returned). Rolls z T before exit r) (given_accepted acc i) h in
         subst (λ (z : List Row). Outcome z before exit (answered r)) (sym (roll_order p acc)) (outcome T (accepted_reordered p acc) before exit (answered r) k.answer k.buffer)
 
-    gridly : (g : ℕ) → Figure g → (before exit : List ℕ) (r : GridRolled) → GridRolls v T g before exit r → Outcome (roll_of S) before exit (grid_rolled r).returned × Reports (cells_entered S g) r
+    gridly : (g : ℕ) → Figure g → (before exit : List ℕ) (r : Result GridRoll Refusal) → GridRolls v T g before exit r → Outcome (roll_of S) before exit (grid_rolled r).returned × Reports (cells_entered S g) r
     gridly g f before exit r h =
         let k = subst (λ (z : Returned). GridRolls z T g before exit r) (given_accepted acc i) h in
         let e = figured T g (length before) (figure_is f) in
@@ -101,9 +101,9 @@ module _ (l : List Command) (acc : Accepted (listing l)) where
           reports r q (ap (λ (z : Reported). z.cells) k.answer),
         )
       where
-        reports : (r : GridRolled) {R : Returned} → (grid_rolled r).returned ≡ R → (grid_rolled r).cells ≡ with_rows R (cells_entered T g) → Reports (cells_entered S g) r
-        reports (Rows n cells) q c = c ∙ ap (λ (z : Returned). with_rows z (cells_entered T g)) (sym q) ∙ rows_count n (cells_entered T g) ∙ sym (count_same acc g p)
-        reports (Refused n o) q c = tt
+        reports : (r : Result GridRoll Refusal) {R : Returned} → (grid_rolled r).returned ≡ R → (grid_rolled r).cells ≡ with_rows R (cells_entered T g) → Reports (cells_entered S g) r
+        reports (Ok roll) q c = c ∙ ap (λ (z : Returned). with_rows z (cells_entered T g)) (sym q) ∙ rows_count roll.rows (cells_entered T g) ∙ sym (count_same acc g p)
+        reports (Err o) q c = tt
 
   pub demand : Demand3 l
   demand =

@@ -1,4 +1,5 @@
 -- Two listings of the same records: `exchange_agrees`, both runs accept or neither does, and they write the same rows.
+use Rattle.std.specs.Prelude.{Result}
 use mathlib.Core.Path.{◌≡◌, ap, ◌∙◌, subst}
 use mathlib.Core.List.Permᴰ
 use mathlib.Core.List.{List}
@@ -12,10 +13,10 @@ use Rattle.sheet.specs.Scan.{verdict_of, commands_of}
 use Rattle.sheet.proofs.Decoded.{commands_fit}
 use Rattle.sheet.proofs.Order.{reordered, reordered_back}
 use Rattle.sheet.proofs.RoundTrip.{accepted_records, relisted}
-use Rattle.sheet.specs.declared.Answer.{Answer}
+use Rattle.sheet.specs.declared.Refusal.{Refusal}
 use Rattle.rule.specs.RowBytes.{row_width}
 use Rattle.plain_run.specs.Rolled.{Rolls}
-use Rattle.grid_run.specs.declared.GridRolled.{GridRolled}
+use Rattle.grid_run.specs.declared.GridRoll.{GridRoll}
 use Rattle.grid_run.specs.GridRolled.{GridRolls}
 use Rattle.grid_run.specs.Exchanged.{SameRecords, AtEntry, Agree}
 use Rattle.grid_run.specs.Demand.{in_bytes}
@@ -24,7 +25,7 @@ use Rattle.grid_run.proofs.Demand.{demand_bytes}
 other_accepted : {s t : List ℕ} → AllBytes s → AllBytes t → t ≡ encode_all (commands_of t) → Reordered (listing (commands_of s)) (listing (commands_of t)) → verdict_of s ≡ accepted → verdict_of t ≡ accepted
 other_accepted {s} {t} b b' whole p e = ap verdict_of whole ∙ relisted (accepted_records s b e) (commands_fit t b') p
 
-module _ (e : AtEntry) (b : AllBytes e.first) (b' : AllBytes e.second) {plain grid : List ℕ} {p : Answer} {r : GridRolled}
+module _ (e : AtEntry) (b : AllBytes e.first) (b' : AllBytes e.second) {plain grid : List ℕ} {p : Result ℕ Refusal} {r : Result GridRoll Refusal}
     (by_plain : Rolls (verdict_of e.first) (listing (commands_of e.first)) e.plain plain p)
     (by_grid : GridRolls (verdict_of e.second) (listing (commands_of e.second)) e.figure e.grid grid r) where
   pub exchange_agrees : SameRecords e.first e.second → Agree e plain grid

@@ -1,4 +1,5 @@
 -- Looked where a tip comes to a cell. Main theorems: `enter_walls` (it has looked at the walls there), `open_tip` (it begins).
+use mathlib.Core.Bool.{Bool, false}
 use mathlib.Core.List.Memᴰ
 use mathlib.Core.List.{List, [], ◌∷◌}
 use mathlib.Core.Logic.{◌⊎◌, inl, inr, ◌≢◌}
@@ -24,7 +25,8 @@ use Rattle.cause.proofs.First.{first_of}
 use Rattle.cause.proofs.Looking.{OfEdge}
 use Rattle.cells.specs.declared.Cell.{Cell}
 use Rattle.cells.specs.Touched.{CellsOf}
-use Rattle.tips.specs.Tips.{Tip, tip_in, no_tip, with_best, with_base, with_cell}
+use Rattle.tips.specs.declared.Tip.{Tip}
+use Rattle.tips.specs.Tips.{tip_in, no_tip, with_best, with_base, with_cell}
 use Rattle.look.specs.Ends.{end_of}
 use Rattle.pair_marks.specs.Marks.{Marked}
 use Rattle.grid_steps.specs.Steps.{region_of, Here}
@@ -67,11 +69,11 @@ base_more {S} {side} {l} {a} k {c} {r} f o =
     go j m u e (inl x) = f.at_walls j m x u e
     go j m u e (inr x) = better.at_walls j m x u e
 
-pub best-more : {S : Listing} {done : List Row} {side : ℕ} {l l' : List Cell} {marks : List (List ℕ)} {i : ℕ} {d c r : Cause}
+pub best-more : {S : Listing} {done : List Row} {side : ℕ} {l l' : List Cell} {marks : List (List Bool)} {i : ℕ} {d c r : Cause}
     → Base S side l' (tip_at S i) d → Stands S (tip_at S i) r → cand_of S r ≼ cand_of S c → cand_of S r ≼ cand_of S d → Best S done side l marks i c → Best S done side l' marks i r
 best-more o t h g x = record { walls = walls_better t g o.walls; at_tips = λ j m y z. beats_better h (x.at_tips j m y z) }
 
-module _ {S : Listing} {done : List Row} {side : ℕ} {es : List (List Cell)} {b : ℕ} {ts : List Tip} {marks : List (List ℕ)} (lk : Looked S done side es b ts marks)
+module _ {S : Listing} {done : List Row} {side : ℕ} {es : List (List Cell)} {b : ℕ} {ts : List Tip} {marks : List (List Bool)} (lk : Looked S done side es b ts marks)
     (i : ℕ) (small : i < 256) (in_cells : i < length es) (runs : Runs b ts i) (k : Cell) {ts' : List Tip} (h : Here S side k i ts ts') where
   abbrev es' : List (List Cell)
   es' = set es i (k ∷ cells_at es i)
@@ -96,16 +98,16 @@ module _ {S : Listing} {done : List Row} {side : ℕ} {es : List (List Cell)} {b
       record {
         long = length-set ts i new ∙ lk.long;
         ends = record {
-          running = at_put (λ (j : ℕ) (t : Tip). j < length S.tracks → t.ended ≡ 0 → Fresh done (tip_at S j)) ts i new room (lk.ends.running i) (λ j n. lk.ends.running j);
-          ended = at_put (λ (j : ℕ) (t : Tip). j < length S.tracks → (t.ended ≡ 0 → ⊥) → Gone done (tip_at S j) t.best.at) ts i new room (λ m n. absurd (n runs.1)) (λ j n. lk.ends.ended j);
+          running = at_put (λ (j : ℕ) (t : Tip). j < length S.tracks → t.ended ≡ false → Fresh done (tip_at S j)) ts i new room (lk.ends.running i) (λ j n. lk.ends.running j);
+          ended = at_put (λ (j : ℕ) (t : Tip). j < length S.tracks → (t.ended ≡ false → ⊥) → Gone done (tip_at S j) t.best.at) ts i new room (λ m n. absurd (n runs.1)) (λ j n. lk.ends.ended j);
         };
         fine = at_put (λ (j : ℕ) (t : Tip). j < b → Fine t.best) ts i new room (λ m. here-first.0.fine) (λ j n. lk.fine j);
-        best = at_put (λ (j : ℕ) (t : Tip). (j < b) × (t.ended ≡ 0) → Best S done side (cells_at es' j) marks j t.best) ts i new room
+        best = at_put (λ (j : ℕ) (t : Tip). (j < b) × (t.ended ≡ false) → Best S done side (cells_at es' j) marks j t.best) ts i new room
             (λ m. best-more base_new here-first.0 here-first.1 here-first.2 (lk.best i runs))
             (λ j n m. subst (λ (z : List Cell). Best S done side z marks j (tip_in ts j).best) (sym (other_cells es i in_cells k j n)) (lk.best j m));
-        base = at_put (λ (j : ℕ) (t : Tip). (j < b) × (t.ended ≡ 0) → Base S side (cells_at es' j) (tip_at S j) t.base) ts i new room
+        base = at_put (λ (j : ℕ) (t : Tip). (j < b) × (t.ended ≡ false) → Base S side (cells_at es' j) (tip_at S j) t.base) ts i new room
             (λ m. base_new) (λ j n m. subst (λ (z : List Cell). Base S side z (tip_at S j) (tip_in ts j).base) (sym (other_cells es i in_cells k j n)) (lk.base j m));
-        gone = at_put (λ (j : ℕ) (t : Tip). j < b → (t.ended ≡ 0 → ⊥) → CellsOf (tip_at S j) (end_of t) side (cells_at es' j)) ts i new room
+        gone = at_put (λ (j : ℕ) (t : Tip). j < b → (t.ended ≡ false → ⊥) → CellsOf (tip_at S j) (end_of t) side (cells_at es' j)) ts i new room
             (λ m n. absurd (n runs.1))
             (λ j n m x. subst (λ (z : List Cell). CellsOf (tip_at S j) (end_of (tip_in ts j)) side z) (sym (other_cells es i in_cells k j n)) (lk.gone j m x));
       }
@@ -115,19 +117,19 @@ module _ {S : Listing} {done : List Row} {side : ℕ} {es : List (List Cell)} {b
 
 -- ---- the tip is in another cell
 
-pub looked_moved : {S : Listing} {done : List Row} {side : ℕ} {es : List (List Cell)} {b : ℕ} {ts : List Tip} {marks : List (List ℕ)} → Looked S done side es b ts marks
+pub looked_moved : {S : Listing} {done : List Row} {side : ℕ} {es : List (List Cell)} {b : ℕ} {ts : List Tip} {marks : List (List Bool)} → Looked S done side es b ts marks
     → (i : ℕ) → i < 256 → (k : Cell) → Looked S done side es b (with_cell ts i k) marks
 looked_moved {S} {done} {side} {es} {b} {ts} {marks} lk i small k =
     record {
       long = length-set ts i new ∙ lk.long;
       ends = record {
-        running = at_put (λ (j : ℕ) (t : Tip). j < length S.tracks → t.ended ≡ 0 → Fresh done (tip_at S j)) ts i new room (lk.ends.running i) (λ j n. lk.ends.running j);
-        ended = at_put (λ (j : ℕ) (t : Tip). j < length S.tracks → (t.ended ≡ 0 → ⊥) → Gone done (tip_at S j) t.best.at) ts i new room (lk.ends.ended i) (λ j n. lk.ends.ended j);
+        running = at_put (λ (j : ℕ) (t : Tip). j < length S.tracks → t.ended ≡ false → Fresh done (tip_at S j)) ts i new room (lk.ends.running i) (λ j n. lk.ends.running j);
+        ended = at_put (λ (j : ℕ) (t : Tip). j < length S.tracks → (t.ended ≡ false → ⊥) → Gone done (tip_at S j) t.best.at) ts i new room (lk.ends.ended i) (λ j n. lk.ends.ended j);
       };
       fine = at_put (λ (j : ℕ) (t : Tip). j < b → Fine t.best) ts i new room (lk.fine i) (λ j n. lk.fine j);
-      best = at_put (λ (j : ℕ) (t : Tip). (j < b) × (t.ended ≡ 0) → Best S done side (cells_at es j) marks j t.best) ts i new room (lk.best i) (λ j n. lk.best j);
-      base = at_put (λ (j : ℕ) (t : Tip). (j < b) × (t.ended ≡ 0) → Base S side (cells_at es j) (tip_at S j) t.base) ts i new room (lk.base i) (λ j n. lk.base j);
-      gone = at_put (λ (j : ℕ) (t : Tip). j < b → (t.ended ≡ 0 → ⊥) → CellsOf (tip_at S j) (end_of t) side (cells_at es j)) ts i new room (lk.gone i) (λ j n. lk.gone j);
+      best = at_put (λ (j : ℕ) (t : Tip). (j < b) × (t.ended ≡ false) → Best S done side (cells_at es j) marks j t.best) ts i new room (lk.best i) (λ j n. lk.best j);
+      base = at_put (λ (j : ℕ) (t : Tip). (j < b) × (t.ended ≡ false) → Base S side (cells_at es j) (tip_at S j) t.base) ts i new room (lk.base i) (λ j n. lk.base j);
+      gone = at_put (λ (j : ℕ) (t : Tip). j < b → (t.ended ≡ false → ⊥) → CellsOf (tip_at S j) (end_of t) side (cells_at es j)) ts i new room (lk.gone i) (λ j n. lk.gone j);
     }
   where
     new : Tip
@@ -138,8 +140,8 @@ looked_moved {S} {done} {side} {es} {b} {ts} {marks} lk i small k =
 
 -- ---- a tip more
 
-module _ {S : Listing} {done : List Row} {side : ℕ} {es : List (List Cell)} {b : ℕ} {ts : List Tip} {marks : List (List ℕ)} (lk : Looked S done side es b ts marks)
-    (small : b < 256) (runs : (tip_in ts b).ended ≡ 0) (none : cells_at es b ≡ []) (clear : (q : ℕ) → q < length S.tracks → Marked marks b q → ⊥) {c : Cause} (e : OfEdge S (tip_at S b) c) where
+module _ {S : Listing} {done : List Row} {side : ℕ} {es : List (List Cell)} {b : ℕ} {ts : List Tip} {marks : List (List Bool)} (lk : Looked S done side es b ts marks)
+    (small : b < 256) (runs : (tip_in ts b).ended ≡ false) (none : cells_at es b ≡ []) (clear : (q : ℕ) → q < length S.tracks → Marked marks b q → ⊥) {c : Cause} (e : OfEdge S (tip_at S b) c) where
   abbrev opened : Tip
   opened = record { best = c; base = c; ended = (tip_in ts b).ended; cell = (tip_in ts b).cell }
 
@@ -158,14 +160,14 @@ module _ {S : Listing} {done : List Row} {side : ℕ} {es : List (List Cell)} {b
       record {
         long = length-set ts b opened ∙ lk.long;
         ends = record {
-          running = at_put (λ (j : ℕ) (t : Tip). j < length S.tracks → t.ended ≡ 0 → Fresh done (tip_at S j)) ts b opened room_more (lk.ends.running b) (λ j n. lk.ends.running j);
-          ended = at_put (λ (j : ℕ) (t : Tip). j < length S.tracks → (t.ended ≡ 0 → ⊥) → Gone done (tip_at S j) t.best.at) ts b opened room_more (λ m n. absurd (n runs)) (λ j n. lk.ends.ended j);
+          running = at_put (λ (j : ℕ) (t : Tip). j < length S.tracks → t.ended ≡ false → Fresh done (tip_at S j)) ts b opened room_more (lk.ends.running b) (λ j n. lk.ends.running j);
+          ended = at_put (λ (j : ℕ) (t : Tip). j < length S.tracks → (t.ended ≡ false → ⊥) → Gone done (tip_at S j) t.best.at) ts b opened room_more (λ m n. absurd (n runs)) (λ j n. lk.ends.ended j);
         };
         fine = at_put (λ (j : ℕ) (t : Tip). j < b + 1 → Fine t.best) ts b opened room_more (λ m. e.stands.fine) (λ j n m. lk.fine j (older j n m));
-        best = at_put (λ (j : ℕ) (t : Tip). (j < b + 1) × (t.ended ≡ 0) → Best S done side (cells_at es j) marks j t.best) ts b opened room_more
+        best = at_put (λ (j : ℕ) (t : Tip). (j < b + 1) × (t.ended ≡ false) → Best S done side (cells_at es j) marks j t.best) ts b opened room_more
             (λ m. record { walls = edged; at_tips = λ q l x y. absurd (clear q l x) }) (λ j n m. lk.best j (older j n m.0, m.1));
-        base = at_put (λ (j : ℕ) (t : Tip). (j < b + 1) × (t.ended ≡ 0) → Base S side (cells_at es j) (tip_at S j) t.base) ts b opened room_more
+        base = at_put (λ (j : ℕ) (t : Tip). (j < b + 1) × (t.ended ≡ false) → Base S side (cells_at es j) (tip_at S j) t.base) ts b opened room_more
             (λ m. record { walls = edged; no_track = e.no_track }) (λ j n m. lk.base j (older j n m.0, m.1));
-        gone = at_put (λ (j : ℕ) (t : Tip). j < b + 1 → (t.ended ≡ 0 → ⊥) → CellsOf (tip_at S j) (end_of t) side (cells_at es j)) ts b opened room_more
+        gone = at_put (λ (j : ℕ) (t : Tip). j < b + 1 → (t.ended ≡ false → ⊥) → CellsOf (tip_at S j) (end_of t) side (cells_at es j)) ts b opened room_more
             (λ m n. absurd (n runs)) (λ j n m. lk.gone j (older j n m));
       }

@@ -1,4 +1,5 @@
 -- When no event is pending: all tips have ended, all rows are out, and the cells are counted. Main theorem: `closed`.
+use mathlib.Core.Bool.{false}
 use mathlib.Core.List.Memᴰ
 use mathlib.Core.List.{List, [], ◌∷◌}
 use mathlib.Core.Logic.{◌⊎◌, inl, inr}
@@ -33,7 +34,8 @@ use Rattle.cells.proofs.CellsEntered.{the_count}
 use Rattle.cells.proofs.Total.{cells_same}
 use Rattle.event_queue.specs.Queue.{slot}
 use Rattle.event_queue.proofs.Slots.{none≢some}
-use Rattle.tips.specs.Tips.{Tip, tip_in}
+use Rattle.tips.specs.declared.Tip.{Tip}
+use Rattle.tips.specs.Tips.{tip_in}
 use Rattle.look.specs.Ends.{end_of}
 use Rattle.grid_state.specs.Sweep.{Sweep}
 use Rattle.grid_state.specs.State.{cells_at, total}
@@ -63,7 +65,7 @@ counts_all T g (a ∷ l) [] e f = absurd (omega arith)
 counts_all T g (a ∷ l) (c ∷ es) e f = and_track c (f 0 (omega arith)) (counts_all T g l es (omega arith) (λ j h. f (suc j) (omega arith)))
 
 -- a tip that has ended has entered exactly the cells of its trace
-module _ {S : Listing} {g k : ℕ} {w : Sweep} (go : Going S g k w) {j : ℕ} (h : j < length S.tracks) (over : (tip_in w.crowd.tips j).ended ≡ 0 → ⊥) where
+module _ {S : Listing} {g k : ℕ} {w : Sweep} (go : Going S g k w) {j : ℕ} (h : j < length S.tracks) (over : (tip_in w.crowd.tips j).ended ≡ false → ⊥) where
   end_is : end_of (tip_in w.crowd.tips j) ≈ᵗ time_of (roll_of S) (tip_at S j).id
   end_is =
       let e = go.state.looked.ends.ended j h over in
@@ -82,7 +84,7 @@ module _ {S : Listing} {g k : ℕ} {w : Sweep} (go : Going S g k w) (nothing : (
   ts = w.crowd.tips
 
   -- no event is pending, so no tip runs
-  all-over : (j : ℕ) → j < n → (tip_in ts j).ended ≡ 0 → ⊥
+  all-over : (j : ℕ) → j < n → (tip_in ts j).ended ≡ false → ⊥
   all-over j h x = none≢some (sym (nothing j) ∙ go.state.queued.due j (h, x) (none_out go.state.accepted.few_tracks j h))
 
   -- so each has a row

@@ -1,10 +1,10 @@
 -- A tip reaches its cause, and ends by it. Main theorems: `ending_progress` (with its row the rows so far are still right), `ending_cells` (its cells are exactly those that it has entered).
+use mathlib.Core.Bool.{true≢false, Bool, false, Bool-discrete}
 use mathlib.Core.List.Memᴰ
 use mathlib.Core.List.{List, [], ◌∷◌, ◌++◌}
 use mathlib.Core.Logic.{◌⊎◌, inl, inr, ◌≢◌}
 use mathlib.Core.Path.{◌≡◌, refl, sym, ap, ◌∙◌, subst}
 use Prim.Native.Nat.{ℕ, ◌+◌, ◌≤◌, ◌<◌}
-use native.Mathlib.Decide.{ℕ_discrete}
 use native.Mathlib.Omega.{arith}
 use lib.ListN.{length, take, length-set}
 use Rattle.fraction.specs.Time.{Time, ◌≤ᵗ◌, ◌<ᵗ◌, ◌≈ᵗ◌}
@@ -48,7 +48,8 @@ use Rattle.cells.proofs.Points.{shared, placed}
 use Rattle.cells.proofs.Total.{cells_same}
 use Rattle.event_queue.specs.Key.{NotAfter}
 use Rattle.pending_events.proofs.Order.{leads_cause}
-use Rattle.tips.specs.Tips.{Tip, tip_in}
+use Rattle.tips.specs.declared.Tip.{Tip}
+use Rattle.tips.specs.Tips.{tip_in}
 use Rattle.look.specs.Ends.{end_of}
 use Rattle.pair_marks.specs.Marks.{Marked}
 use Rattle.grid_steps.specs.Steps.{InGrid, entry_in}
@@ -61,7 +62,7 @@ use Rattle.grid_state.proofs.Been.{later-past, cell_near, been_in}
 use Rattle.ending.proofs.Ends.{runs_on, over, over_fine, ends_next}
 
 -- the event of the tip at r is the first of all, and it is its cause, which still counts
-module _ {S : Listing} (acc : Accepted S) {s : ℕ} (some-side : 0 < s) {done : List Row} {es : List (List Cell)} {k : ℕ} {ts : List Tip} {marks : List (List ℕ)}
+module _ {S : Listing} (acc : Accepted S) {s : ℕ} (some-side : 0 < s) {done : List Row} {es : List (List Cell)} {k : ℕ} {ts : List Tip} {marks : List (List Bool)}
     (lk : Looked S done s es (length S.tracks) ts marks) (mk : Marks es (length S.tracks) marks) (pl : Placed S done s es (length S.tracks) 256 ts) (rows : Rows S done k)
     (r : ℕ) (runs : Runs (length S.tracks) ts r) (late : (entry_in S s ts r).key.late ≡ 1)
     (first : (j : ℕ) → Runs (length S.tracks) ts j → NotAfter (entry_in S s ts r).key (entry_in S s ts j).key) (live : LiveCause S done (tip_in ts r).best) where
@@ -106,9 +107,9 @@ module _ {S : Listing} (acc : Accepted S) {s : ℕ} (some-side : 0 < s) {done : 
   in_sheet j m = ≤ᵗ_trans (by_then j m) (below_le (lk.best j (run j m)).walls.at_rim)
 
   entered : (j : ℕ) (v : Time) (c : Cell) → j < n → v ≤ᵗ t → v ≤ᵗ up_to done t (tip_at S j).id → InCell (tip_at S j) s c v → c ∈ cells_at es j
-  entered j v c h x y i = go (ℕ_discrete (tip_in ts j).ended 0)
+  entered j v c h x y i = go (Bool-discrete (tip_in ts j).ended false)
     where
-      go : Dec ((tip_in ts j).ended ≡ 0) → c ∈ cells_at es j
+      go : Dec ((tip_in ts j).ended ≡ false) → c ∈ cells_at es j
       go (yes z) = been_in (pl.at j (h, z) (stay j h)) (behind j (h, z)).1 x i
       go (no z) = (lk.gone j h z).all c (record { when = v; by_end = subst (λ (e : Time). v ≤ᵗ e) (gone_at (lk.ends.ended j h z) t) y; there = i })
 
@@ -184,10 +185,10 @@ module _ {S : Listing} (acc : Accepted S) {s : ℕ} (some-side : 0 < s) {done : 
         ends = ends_next acc lk.ends runs.0 room closed;
         fine = at_put (λ (j : ℕ) (x : Tip). j < n → Fine x.best) ts r new room (λ h. over_fine (tip_in ts r) (lk.fine r h)) (λ j d. lk.fine j);
         best =
-            at_put (λ (j : ℕ) (x : Tip). (j < n) × (x.ended ≡ 0) → Best S (row ∷ done) s (cells_at es j) marks j x.best) ts r new room (λ u. absurd (omega (arith, u.1)))
+            at_put (λ (j : ℕ) (x : Tip). (j < n) × (x.ended ≡ false) → Best S (row ∷ done) s (cells_at es j) marks j x.best) ts r new room (λ u. absurd (true≢false u.1))
             (λ j d u. record { walls = (lk.best j u).walls; at_tips = λ m h y z. beats_step (tip_at S r) row acc (on j u.0) (on m h) z refl running closed.opened ((lk.best j u).at_tips m h y z) });
-        base = at_put (λ (j : ℕ) (x : Tip). (j < n) × (x.ended ≡ 0) → Base S s (cells_at es j) (tip_at S j) x.base) ts r new room (λ u. absurd (omega (arith, u.1))) (λ j d. lk.base j);
-        gone = at_put (λ (j : ℕ) (x : Tip). j < n → (x.ended ≡ 0 → ⊥) → CellsOf (tip_at S j) (end_of x) s (cells_at es j)) ts r new room (λ h x. cells_same reduced ending_cells) (λ j d. lk.gone j);
+        base = at_put (λ (j : ℕ) (x : Tip). (j < n) × (x.ended ≡ false) → Base S s (cells_at es j) (tip_at S j) x.base) ts r new room (λ u. absurd (true≢false u.1)) (λ j d. lk.base j);
+        gone = at_put (λ (j : ℕ) (x : Tip). j < n → (x.ended ≡ false → ⊥) → CellsOf (tip_at S j) (end_of x) s (cells_at es j)) ts r new room (λ h x. cells_same reduced ending_cells) (λ j d. lk.gone j);
       }
 
   ahead_ended : (j : ℕ) → j < n → {c : Cell} → Ahead S done s (tip_at S j) c → Ahead S (row ∷ done) s (tip_at S j) c
@@ -202,10 +203,10 @@ module _ {S : Listing} (acc : Accepted S) {s : ℕ} (some-side : 0 < s) {done : 
       record {
         in_grid = at_put (λ (j : ℕ) (x : Tip). j < n → j ≢ 256 → InGrid s x.cell) ts r new room (pl.in_grid r) (λ j d. pl.in_grid j);
         at =
-            at_put (λ (j : ℕ) (x : Tip). (j < n) × (x.ended ≡ 0) → j ≢ 256 → Entered (tip_at S j) (rim (tip_at S j)) s x.cell (cells_at es j)) ts r new room
-            (λ u. absurd (omega (arith, u.1))) (λ j d. pl.at j);
+            at_put (λ (j : ℕ) (x : Tip). (j < n) × (x.ended ≡ false) → j ≢ 256 → Entered (tip_at S j) (rim (tip_at S j)) s x.cell (cells_at es j)) ts r new room
+            (λ u. absurd (true≢false u.1)) (λ j d. pl.at j);
         ahead =
-            at_put (λ (j : ℕ) (x : Tip). (j < n) × (x.ended ≡ 0) → j ≢ 256 → Ahead S (row ∷ done) s (tip_at S j) x.cell) ts r new room (λ u. absurd (omega (arith, u.1)))
+            at_put (λ (j : ℕ) (x : Tip). (j < n) × (x.ended ≡ false) → j ≢ 256 → Ahead S (row ∷ done) s (tip_at S j) x.cell) ts r new room (λ u. absurd (true≢false u.1))
             (λ j d u q. ahead_ended j u.0 (pl.ahead j u q));
       }
 

@@ -1,4 +1,5 @@
 -- A tip enters its next cell. Main theorems: `next-entered` and `next-ahead` (nothing could have ended it before), and the state with one cell more: `marked_enter`, `listed-enter`, `placed_enter`.
+use mathlib.Core.Bool.{Bool, false, Bool-discrete}
 use mathlib.Core.List.Memᴰ
 use mathlib.Core.List.{List, [], ◌∷◌}
 use mathlib.Core.Logic.{◌⊎◌, inl, inr, ◌≢◌}
@@ -45,7 +46,8 @@ use Rattle.cells.proofs.Points.{shared, placed, in_grid}
 use Rattle.cells.proofs.Walk.{Stepped, stepped}
 use Rattle.event_queue.specs.Key.{NotAfter}
 use Rattle.pending_events.proofs.Order.{own_entry, leads_entry}
-use Rattle.tips.specs.Tips.{Tip, tip_in, with_cell}
+use Rattle.tips.specs.declared.Tip.{Tip}
+use Rattle.tips.specs.Tips.{tip_in, with_cell}
 use Rattle.pair_marks.specs.Marks.{Marked}
 use Rattle.grid_steps.specs.Steps.{InGrid, entry_in}
 use Rattle.grid_state.specs.State.{code_of, cells_at, total, Runs, Looked, Marks, Ahead, Placed, Listed}
@@ -79,7 +81,7 @@ between {u} {t} k h o = go (≤ᵗ_or_<ᵗ o.at u)
     go (inl x) = absurd (not-past x (h.to o.at o.above))
     go (inr x) = <ᵗ_≤ᵗ_trans x (by_past o.below)
 
-module _ {S : Listing} (acc : Accepted S) {g : ℕ} (fig : Figure g) (some-side : 0 < side g) {done : List Row} {es : List (List Cell)} {ts : List Tip} {marks : List (List ℕ)}
+module _ {S : Listing} (acc : Accepted S) {g : ℕ} (fig : Figure g) (some-side : 0 < side g) {done : List Row} {es : List (List Cell)} {ts : List Tip} {marks : List (List Bool)}
     (lk : Looked S done (side g) es (length S.tracks) ts marks) (mk : Marks es (length S.tracks) marks) (pl : Placed S done (side g) es (length S.tracks) 256 ts)
     (r : ℕ) (runs : Runs (length S.tracks) ts r) (entry_first : (entry_in S (side g) ts r).key.late ≡ 1 → ⊥)
     (before : (j : ℕ) → Runs (length S.tracks) ts j → NotAfter (entry_in S (side g) ts r).key (entry_in S (side g) ts j).key) where
@@ -130,9 +132,9 @@ module _ {S : Listing} (acc : Accepted S) {g : ℕ} (fig : Figure g) (some-side 
       (c, i, been_in now h (≤ᵗ_refl u) i)
 
   other_in : (m : ℕ) → m < length S.tracks → (u v : Time) (c : Cell) → past u ≤ᶜ exit a s k → v ≤ᵗ u → v ≤ᵗ up_to done u (tip_at S m).id → InCell (tip_at S m) s c v → c ∈ cells_at es m
-  other_in m l u v c h x y i = go (ℕ_discrete (tip_in ts m).ended 0)
+  other_in m l u v c h x y i = go (Bool-discrete (tip_in ts m).ended false)
     where
-      go : Dec ((tip_in ts m).ended ≡ 0) → c ∈ cells_at es m
+      go : Dec ((tip_in ts m).ended ≡ false) → c ∈ cells_at es m
       go (yes z) =
           been_in (pl.at m (l, z) (none_out acc.few_tracks m l))
           (≤ᶜ_trans h (leads_entry a s k (tip_in ts r).best (lk.fine r runs.0) (tip_at S m) (tip_in ts m).cell (tip_in ts m).best (lk.fine m l) entry_first (before m (l, z)))) x i
@@ -186,7 +188,7 @@ module _ (es : List (List Cell)) (i : ℕ) (room : i < length es) (k : Cell) whe
       go (no n) = inr (subst (λ (z : List Cell). c ∈ z) (other_cells es i room k j n) m)
 
   -- those in the cell have marks beside the tip that comes
-  pub marked_enter : {b : ℕ} {marks : List (List ℕ)} → i < 256 → b ≤ 256 → Marks es b marks → ((j : ℕ) → j < b → j ≢ i → k ∈ cells_at es j → Marked marks i j) → Marks es' b marks
+  pub marked_enter : {b : ℕ} {marks : List (List Bool)} → i < 256 → b ≤ 256 → Marks es b marks → ((j : ℕ) → j < b → j ≢ i → k ∈ cells_at es j → Marked marks i j) → Marks es' b marks
   marked_enter {b} {marks} few fews mk f =
       record {
         square = mk.square;
@@ -258,10 +260,10 @@ module _ (es : List (List Cell)) (i : ℕ) (room : i < length es) (k : Cell) whe
   placed_enter {b} {S} {done} {side} {ts} h small e o pl =
       record {
         in_grid = at_put (λ (j : ℕ) (t : Tip). j < b → j ≢ 256 → InGrid side t.cell) ts i new h (λ l n. small) (λ j d l n. pl.in_grid j l d);
-        at = at_put (λ (j : ℕ) (t : Tip). (j < b) × (t.ended ≡ 0) → j ≢ 256 → Entered (tip_at S j) (rim (tip_at S j)) side t.cell (cells_at es' j)) ts i new h
+        at = at_put (λ (j : ℕ) (t : Tip). (j < b) × (t.ended ≡ false) → j ≢ 256 → Entered (tip_at S j) (rim (tip_at S j)) side t.cell (cells_at es' j)) ts i new h
             (λ l n. subst (λ (z : List Cell). Entered (tip_at S i) (rim (tip_at S i)) side k z) (sym (own_cells es i room k)) e)
             (λ j d l n. subst (λ (z : List Cell). Entered (tip_at S j) (rim (tip_at S j)) side (tip_in ts j).cell z) (sym (other_cells es i room k j d)) (pl.at j l d));
-        ahead = at_put (λ (j : ℕ) (t : Tip). (j < b) × (t.ended ≡ 0) → j ≢ 256 → Ahead S done side (tip_at S j) t.cell) ts i new h (λ l n. o) (λ j d l n. pl.ahead j l d);
+        ahead = at_put (λ (j : ℕ) (t : Tip). (j < b) × (t.ended ≡ false) → j ≢ 256 → Ahead S done side (tip_at S j) t.cell) ts i new h (λ l n. o) (λ j d l n. pl.ahead j l d);
       }
     where
       new : Tip

@@ -49,7 +49,8 @@ use Rattle.event_queue.specs.declared.Event.{Event}
 use Rattle.event_queue.specs.declared.Key.{Key}
 use Rattle.event_queue.specs.Key as key
 use Rattle.event_queue.specs.Queue.{First}
-use Rattle.tips.specs.Tips.{Tip, tip_in}
+use Rattle.tips.specs.declared.Tip.{Tip}
+use Rattle.tips.specs.Tips.{tip_in}
 use Rattle.pending_events.specs.Pending.{pending_key}
 use Rattle.pending_events.proofs.Order.{enters_no, pending_by, own_entry}
 use Rattle.grid_steps.specs.Steps.{entry_in}

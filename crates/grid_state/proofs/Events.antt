@@ -1,5 +1,5 @@
 -- An event leaves the queue, and is dealt with. Main theorems: `event_way` (a cell is entered) and `entry-time` (at the time of its key); `going_entered`, `going_again` (a cause no longer counts), `going_ended`: the run goes on, and there is less to do.
-use mathlib.Core.Bool.{true, false, true≢false}
+use mathlib.Core.Bool.{Bool, true, false, true≢false}
 use mathlib.Core.List.{List, [], ◌∷◌}
 use mathlib.Core.Logic.{◌≢◌}
 use mathlib.Core.Option.{none, some, some-injective}
@@ -19,7 +19,7 @@ use Rattle.rule.proofs.OnSheet.{rim-opened}
 use Rattle.rule.specs.Rows.{time_of}
 use Rattle.rule.specs.Selection.{roll_of}
 use Rattle.cause.specs.declared.Cause.{Cause}
-use Rattle.cause.specs.Cause.{tip_at, cand_of, Stands}
+use Rattle.cause.specs.Cause.{rank, tip_at, cand_of, Stands}
 use Rattle.cause.specs.Looked.{FirstOfTracks}
 use Rattle.cause.proofs.Looking.{walls_live}
 use Rattle.ending.specs.Ended.{Endable, next_row}
@@ -38,7 +38,8 @@ use Rattle.event_queue.specs.declared.Key.{Key}
 use Rattle.event_queue.specs.Key.{time}
 use Rattle.event_queue.specs.Queue.{Slots, First}
 use Rattle.pending_events.specs.Pending.{event_of}
-use Rattle.tips.specs.Tips.{Tip, tip_in}
+use Rattle.tips.specs.declared.Tip.{Tip}
+use Rattle.tips.specs.Tips.{tip_in}
 use Rattle.look.specs.Ends.{end_of}
 use Rattle.look.specs.Counts.{Counts, no_track as is_no_track, MayTell, stale}
 use Rattle.look.specs.Tracks.{MayLookOn, LookedAgain}
@@ -70,7 +71,7 @@ abbrev pub Onward : Listing → ℕ → ℕ → Sweep → ℕ → Sweep → Type
 Onward S g k w k' w' = Going S g k' w' × (to_do (length S.tracks) w' k' < to_do (length S.tracks) w k)
 
 -- a tip has looked from its base cause on at all that it has a mark beside
-again_best : {S : Listing} {done : List Row} {s : ℕ} {l : List Cell} {marks : List (List ℕ)} {i : ℕ} {c r : Cause} → Base S s l (tip_at S i) c → FirstOfTracks S done (tip_at S i) (Marked marks i) c r → Best S done s l marks i r
+again_best : {S : Listing} {done : List Row} {s : ℕ} {l : List Cell} {marks : List (List Bool)} {i : ℕ} {c r : Cause} → Base S s l (tip_at S i) c → FirstOfTracks S done (tip_at S i) (Marked marks i) c r → Best S done s l marks i r
 again_best o f = record { walls = walls_better f.stands f.first o.walls; at_tips = f.at_tips }
 
 -- the event e of the tip at r is the first of all
@@ -135,13 +136,13 @@ module _ {S : Listing} {g k : ℕ} {w : Sweep} (go : Going S g k w) {r : ℕ} {e
   pub cell_event : {x y : ℕ} → e ≡ event.Cell x y → ((entry_in S (side g) w.crowd.tips r).key.late ≡ 1 → ⊥) × (next (tip_at S r) (side g) (tip_in w.crowd.tips r).cell ≡ record { column = x; row = y })
   cell_event {x} {y} z = is_cell (entry_in S s ts r).key.late to cause x y (sym z ∙ event_is)
 
-  pub track_event : {x : ℕ} → e ≡ event.Track x → ((entry_in S (side g) w.crowd.tips r).key.late ≡ 1) × ((tip_in w.crowd.tips r).best.class ≡ 0) × ((tip_in w.crowd.tips r).best.id ≡ x)
+  pub track_event : {x : ℕ} → e ≡ event.Track x → ((entry_in S (side g) w.crowd.tips r).key.late ≡ 1) × (rank (tip_in w.crowd.tips r).best.class ≡ 0) × ((tip_in w.crowd.tips r).best.id ≡ x)
   track_event {x} z = is_track (entry_in S s ts r).key.late to cause x (sym z ∙ event_is)
 
-  pub wall_event : {x : ℕ} → e ≡ event.Wall x → ((entry_in S (side g) w.crowd.tips r).key.late ≡ 1) × ((tip_in w.crowd.tips r).best.class ≡ 1) × ((tip_in w.crowd.tips r).best.id ≡ x)
+  pub wall_event : {x : ℕ} → e ≡ event.Wall x → ((entry_in S (side g) w.crowd.tips r).key.late ≡ 1) × (rank (tip_in w.crowd.tips r).best.class ≡ 1) × ((tip_in w.crowd.tips r).best.id ≡ x)
   wall_event {x} z = is_wall (entry_in S s ts r).key.late to cause x (sym z ∙ event_is)
 
-  pub edge_event : e ≡ event.Edge → ((entry_in S (side g) w.crowd.tips r).key.late ≡ 1) × ((tip_in w.crowd.tips r).best.class ≡ 0 → ⊥) × ((tip_in w.crowd.tips r).best.class ≡ 1 → ⊥)
+  pub edge_event : e ≡ event.Edge → ((entry_in S (side g) w.crowd.tips r).key.late ≡ 1) × (rank (tip_in w.crowd.tips r).best.class ≡ 0 → ⊥) × (rank (tip_in w.crowd.tips r).best.class ≡ 1 → ⊥)
   edge_event z = is_edge (entry_in S s ts r).key.late to cause (sym z ∙ event_is)
 
   -- ---- a cell is entered
@@ -238,8 +239,8 @@ module _ {S : Listing} {g k : ℕ} {w : Sweep} (go : Going S g k w) {r : ℕ} {e
         subst (Placed S done s es n 256) (sym a.stored)
         (record {
           in_grid = at_put (λ (j : ℕ) (t : Tip). j < n → j ≢ 256 → InGrid s t.cell) ts r new room (st.placed.in_grid r) (λ j d. st.placed.in_grid j);
-          at = at_put (λ (j : ℕ) (t : Tip). (j < n) × (t.ended ≡ 0) → j ≢ 256 → Entered (tip_at S j) (rim (tip_at S j)) s t.cell (cells_at es j)) ts r new room (st.placed.at r) (λ j d. st.placed.at j);
-          ahead = at_put (λ (j : ℕ) (t : Tip). (j < n) × (t.ended ≡ 0) → j ≢ 256 → Ahead S done s (tip_at S j) t.cell) ts r new room (st.placed.ahead r) (λ j d. st.placed.ahead j);
+          at = at_put (λ (j : ℕ) (t : Tip). (j < n) × (t.ended ≡ false) → j ≢ 256 → Entered (tip_at S j) (rim (tip_at S j)) s t.cell (cells_at es j)) ts r new room (st.placed.at r) (λ j d. st.placed.at j);
+          ahead = at_put (λ (j : ℕ) (t : Tip). (j < n) × (t.ended ≡ false) → j ≢ 256 → Ahead S done s (tip_at S j) t.cell) ts r new room (st.placed.ahead r) (λ j d. st.placed.ahead j);
         })
 
     ended_again : (j : ℕ) → (tip_in ts' j).ended ≡ (tip_in ts j).ended
@@ -255,7 +256,6 @@ module _ {S : Listing} {g k : ℕ} {w : Sweep} (go : Going S g k w) {r : ℕ} {e
           tip_within = event_runs.0;
           in_grid = placed_again.in_grid r event_runs.0 (none_out few r event_runs.0);
           fine = looked_again.fine r event_runs.0;
-          id_in = (looked_again.best r runs_again).walls.stands.id_in;
         }
 
     live_again : (j : ℕ) → LiveCause S done (tip_in ts j).best → LiveCause S done (tip_in ts' j).best
@@ -332,7 +332,6 @@ module _ {S : Listing} {g k : ℕ} {w : Sweep} (go : Going S g k w) {r : ℕ} {e
         record {
           ok = st.accepted.tracks_ok (tip_at S r) on;
           fine = event_stands.fine;
-          id_in = event_stands.id_in;
           inside = ending_inside st.accepted (figure_in go.figure).0 st.looked st.marked st.placed go.rows r event_runs late left.least live;
         }
 

@@ -1,4 +1,5 @@
 -- The tip on its way and another look at each other; so with each of a list. Main theorems: `busy_paired`, `busy_meets`.
+use mathlib.Core.Bool.{Bool}
 use mathlib.Core.List.Memᴰ
 use mathlib.Core.List.{List, []}
 use mathlib.Core.Logic.{◌⊎◌, inl, inr, ◌≢◌}
@@ -15,7 +16,8 @@ use Rattle.cause.specs.Cause.{tip_at, cand_of}
 use Rattle.cause.specs.Looked.{FirstOfTracks}
 use Rattle.cause.proofs.Looking.{tip_fine}
 use Rattle.event_queue.specs.Queue.{Slots}
-use Rattle.tips.specs.Tips.{Tip, tip_in, with_best}
+use Rattle.tips.specs.declared.Tip.{Tip}
+use Rattle.tips.specs.Tips.{tip_in, with_best}
 use Rattle.pair_marks.specs.Marks.{Marked, marking}
 use Rattle.pair_marks.proofs.Marked.{square_kept}
 use Rattle.grid_steps.specs.Steps.{InGrid, Offered, entry_in}
@@ -38,7 +40,7 @@ later_trans p q =
     }
 
 -- the tip at j has looked at the tip at q
-record Look (S : Listing) (F : Frame) (side j q : ℕ) (marks : List (List ℕ)) (ts ts' : List Tip) : Type 0 where
+record Look (S : Listing) (F : Frame) (side j q : ℕ) (marks : List (List Bool)) (ts ts' : List Tip) : Type 0 where
   looked : Looked S F.done side F.ls F.begun ts' marks
   ended_same : (k : ℕ) → (tip_in ts' k).ended ≡ (tip_in ts k).ended
   cell_same : (k : ℕ) → (tip_in ts' k).cell ≡ (tip_in ts k).cell
@@ -150,8 +152,8 @@ module _ {S : Listing} {F : Frame} {side i : ℕ} {w : Crowd} (z : Busy S F side
   -- both have looked, and get their marks
   module _ (j : ℕ) (h : j < F.begun) (f : (tip_at S j).id ≢ (tip_at S i).id → Beats F.done (cand_of S (tip_in w.tips i).best) (tip_at S i) (tip_at S j))
       (g : Runs F.begun w.tips j → (tip_at S i).id ≢ (tip_at S j).id → Beats F.done (cand_of S (tip_in w.tips j).best) (tip_at S j) (tip_at S i)) where
-    mark_both : (m : List (List ℕ)) → m ≡ marking (marking w.marks i j) j i → Beside S F side i j w (record { tips = w.tips; pending = w.pending; marks = m })
-    mark_both m e = subst (λ (k : List (List ℕ)). Beside S F side i j w (record { tips = w.tips; pending = w.pending; marks = k })) (sym e) now
+    mark_both : (m : List (List Bool)) → m ≡ marking (marking w.marks i j) j i → Beside S F side i j w (record { tips = w.tips; pending = w.pending; marks = m })
+    mark_both m e = subst (λ (k : List (List Bool)). Beside S F side i j w (record { tips = w.tips; pending = w.pending; marks = k })) (sym e) now
       where
         hi : i < 256
         hi = (begun_place i z.runs.0).1

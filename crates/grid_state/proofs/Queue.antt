@@ -1,4 +1,5 @@
 -- The queue after each of its moves. Main theorems: `queue_anew`, `queue_back`, `queue_first`.
+use mathlib.Core.Bool.{true, true≢false, false, Bool-discrete}
 use mathlib.Core.List.{List}
 use mathlib.Core.Logic.{◌≢◌}
 use mathlib.Core.Option.{Option, none, some, some-injective}
@@ -20,7 +21,8 @@ use Rattle.event_queue.proofs.Bags.{pick}
 use Rattle.event_queue.proofs.Callers.{slot_in, slot_same, slot-other}
 use Rattle.event_queue.proofs.Slots.{none≢some}
 use Rattle.pending_events.specs.Pending.{pending_entry}
-use Rattle.tips.specs.Tips.{Tip, tip_in, no_tip, at-time, with_end}
+use Rattle.tips.specs.declared.Tip.{Tip}
+use Rattle.tips.specs.Tips.{tip_in, no_tip, at-time, with_end}
 use Rattle.grid_steps.specs.Steps.{entry_in}
 use Rattle.grid_state.specs.State.{Runs, Queued}
 
@@ -64,7 +66,7 @@ module _ {S : Listing} {side b x : ℕ} {ts : List Tip} {s : Slots} (q : Queued 
   new j t = some (entry_in S side (set ts j t) j)
 
   abbrev gone : Fraction → Tip
-  gone t = record { best = at-time (tip_in ts x).best t; base = (tip_in ts x).base; ended = 1; cell = (tip_in ts x).cell }
+  gone t = record { best = at-time (tip_in ts x).best t; base = (tip_in ts x).base; ended = true; cell = (tip_in ts x).cell }
 
   -- ---- the tip at x is on its way
 
@@ -99,7 +101,7 @@ module _ {S : Listing} {side b x : ℕ} {ts : List Tip} {s : Slots} (q : Queued 
         long = q.long;
         due =
             λ j u _.
-            let n : j ≢ x = λ z. let here = ap (λ (v : Tip). v.ended) (tip_same ts x (gone t) h) in let zero = ap (λ (k : ℕ). (tip_in (with_end ts x t) k).ended) z in omega (arith, u.1) in
+            let n : j ≢ x = λ z. true≢false (sym (ap (λ (v : Tip). v.ended) (tip_same ts x (gone t) h)) ∙ sym (ap (λ (k : ℕ). (tip_in (with_end ts x t) k).ended) z) ∙ u.1) in
             q.due j (runs_other ts x (gone t) b j n u) n ∙ entry_other ts x (gone t) S side j n;
         idle = λ j f. q.idle j (λ u. pick (ℕ_discrete j x) (λ z. z) (λ n. absurd (none_out few j u.0 (f (other_runs ts x (gone t) b j n u)))));
       }
@@ -171,7 +173,7 @@ module _ {S : Listing} {side b : ℕ} {ts : List Tip} {s : Slots} (q : Queued S 
       begun = pick (dec_lt tip b) (λ h. h) (λ n. never (λ u. n u.0))
 
       r : Runs b ts tip
-      r = (begun, pick (ℕ_discrete (tip_in ts tip).ended 0) (λ h. h) (λ n. never (λ u. n u.1)))
+      r = (begun, pick (Bool-discrete (tip_in ts tip).ended false) (λ h. h) (λ n. never (λ u. n u.1)))
 
       same : entry_in S side ts tip ≡ record { key = f.key; event = e }
       same = some-injective _ _ (sym (q.due tip r (none_out few tip begun)) ∙ f.held)

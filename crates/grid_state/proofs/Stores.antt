@@ -1,4 +1,5 @@
 -- Looked after a store. Main theorems: `store_best`, `look_first`, `mark_one`, `marked_both`.
+use mathlib.Core.Bool.{Bool, false}
 use mathlib.Core.List.{List}
 use mathlib.Core.Logic.{◌⊎◌, inl, inr, ◌≢◌}
 use mathlib.Core.Path.{◌≡◌, sym, ◌∙◌, subst}
@@ -23,7 +24,8 @@ use Rattle.cause.proofs.Looking.{tip_looked}
 use Rattle.cells.specs.declared.Cell.{Cell}
 use Rattle.cells.specs.Touched.{CellsOf}
 use Rattle.tips.proofs.Put.{at_put}
-use Rattle.tips.specs.Tips.{Tip, tip_in, with_best}
+use Rattle.tips.specs.declared.Tip.{Tip}
+use Rattle.tips.specs.Tips.{tip_in, with_best}
 use Rattle.pair_marks.specs.Marks.{Marked, Square, marking}
 use Rattle.pair_marks.proofs.Marked.{mark_same, mark_kept, mark_only, square_kept}
 use Rattle.grid_steps.specs.Steps.{Offered}
@@ -40,11 +42,11 @@ walls_better {S} {side} {l} {a} {c} {d} t h w =
       at_walls = λ j i x u e. cand_trans (cand_of S d) (cand_of S c) (record { u = u; why = by_bar (wall_at S j) }) h (w.at_walls j i x u e);
     }
 
-pub best_better : {S : Listing} {done : List Row} {side : ℕ} {l : List Cell} {marks : List (List ℕ)} {j : ℕ} {c d : Cause} → Stands S (tip_at S j) d → cand_of S d ≼ cand_of S c
+pub best_better : {S : Listing} {done : List Row} {side : ℕ} {l : List Cell} {marks : List (List Bool)} {j : ℕ} {c d : Cause} → Stands S (tip_at S j) d → cand_of S d ≼ cand_of S c
     → Best S done side l marks j c → Best S done side l marks j d
 best_better t h b = record { walls = walls_better t h b.walls; at_tips = λ k m x y. beats_better h (b.at_tips k m x y) }
 
-module _ {S : Listing} {done : List Row} {side : ℕ} {es : List (List Cell)} {b : ℕ} {ts : List Tip} {marks : List (List ℕ)} (lk : Looked S done side es b ts marks) (i : ℕ) (h : i < 256) (r : Runs b ts i) (c : Cause) where
+module _ {S : Listing} {done : List Row} {side : ℕ} {es : List (List Cell)} {b : ℕ} {ts : List Tip} {marks : List (List Bool)} (lk : Looked S done side es b ts marks) (i : ℕ) (h : i < 256) (r : Runs b ts i) (c : Cause) where
   abbrev new : Tip
   new = record { best = c; base = (tip_in ts i).base; ended = (tip_in ts i).ended; cell = (tip_in ts i).cell }
 
@@ -57,17 +59,17 @@ module _ {S : Listing} {done : List Row} {side : ℕ} {es : List (List Cell)} {b
       record {
         long = length-set ts i new ∙ lk.long;
         ends = record {
-          running = at_put (λ (k : ℕ) (t : Tip). k < length S.tracks → t.ended ≡ 0 → Fresh done (tip_at S k)) ts i new room (lk.ends.running i) (λ k n. lk.ends.running k);
-          ended = at_put (λ (k : ℕ) (t : Tip). k < length S.tracks → (t.ended ≡ 0 → ⊥) → Gone done (tip_at S k) t.best.at) ts i new room (λ l n. absurd (n r.1)) (λ k n. lk.ends.ended k);
+          running = at_put (λ (k : ℕ) (t : Tip). k < length S.tracks → t.ended ≡ false → Fresh done (tip_at S k)) ts i new room (lk.ends.running i) (λ k n. lk.ends.running k);
+          ended = at_put (λ (k : ℕ) (t : Tip). k < length S.tracks → (t.ended ≡ false → ⊥) → Gone done (tip_at S k) t.best.at) ts i new room (λ l n. absurd (n r.1)) (λ k n. lk.ends.ended k);
         };
         fine = at_put (λ (j : ℕ) (t : Tip). j < b → Fine t.best) ts i new room (λ l. f) (λ j n. lk.fine j);
-        best = at_put (λ (j : ℕ) (t : Tip). (j < b) × (t.ended ≡ 0) → Best S done side (cells_at es j) marks j t.best) ts i new room (λ l. x) (λ j n. lk.best j);
-        base = at_put (λ (j : ℕ) (t : Tip). (j < b) × (t.ended ≡ 0) → Base S side (cells_at es j) (tip_at S j) t.base) ts i new room (lk.base i) (λ j n. lk.base j);
-        gone = at_put (λ (j : ℕ) (t : Tip). j < b → (t.ended ≡ 0 → ⊥) → CellsOf (tip_at S j) (end_of t) side (cells_at es j)) ts i new room (λ l n. absurd (n r.1)) (λ j n. lk.gone j);
+        best = at_put (λ (j : ℕ) (t : Tip). (j < b) × (t.ended ≡ false) → Best S done side (cells_at es j) marks j t.best) ts i new room (λ l. x) (λ j n. lk.best j);
+        base = at_put (λ (j : ℕ) (t : Tip). (j < b) × (t.ended ≡ false) → Base S side (cells_at es j) (tip_at S j) t.base) ts i new room (lk.base i) (λ j n. lk.base j);
+        gone = at_put (λ (j : ℕ) (t : Tip). j < b → (t.ended ≡ false → ⊥) → CellsOf (tip_at S j) (end_of t) side (cells_at es j)) ts i new room (λ l n. absurd (n r.1)) (λ j n. lk.gone j);
       }
 
 -- the tip at j looks at the tip at q
-pub look_first : {S : Listing} → Accepted S → {done : List Row} {side : ℕ} {es : List (List Cell)} {b : ℕ} {ts : List Tip} {marks : List (List ℕ)} → Looked S done side es b ts marks
+pub look_first : {S : Listing} → Accepted S → {done : List Row} {side : ℕ} {es : List (List Cell)} {b : ℕ} {ts : List Tip} {marks : List (List Bool)} → Looked S done side es b ts marks
     → (j q : ℕ) → j < length S.tracks → q < length S.tracks → Runs b ts j → {ts' : List Tip} → (o : Offered S j q ts ts')
     → FirstOfTracks S done (tip_at S j) (λ (m : ℕ). m ≡ q) (tip_in ts j).best o.cause
 look_first {S} acc {done} {ts = ts} lk j q hj hq r o =
@@ -76,7 +78,7 @@ look_first {S} acc {done} {ts = ts} lk j q hj hq r o =
 
 -- ---- one mark more
 
-pub mark_one : {S : Listing} {done : List Row} {side : ℕ} {es : List (List Cell)} {b : ℕ} {ts : List Tip} {marks : List (List ℕ)} → Looked S done side es b ts marks → Square marks → (i j : ℕ) → i < 256
+pub mark_one : {S : Listing} {done : List Row} {side : ℕ} {es : List (List Cell)} {b : ℕ} {ts : List Tip} {marks : List (List Bool)} → Looked S done side es b ts marks → Square marks → (i j : ℕ) → i < 256
     → (Runs b ts i → (tip_at S j).id ≢ (tip_at S i).id → Beats done (cand_of S (tip_in ts i).best) (tip_at S i) (tip_at S j)) → Looked S done side es b ts (marking marks i j)
 mark_one {S} {done} {side} {es} {b} {ts} {marks} lk sq i j h f =
     record {
@@ -95,14 +97,14 @@ mark_one {S} {done} {side} {es} {b} {ts} {marks} lk sq i j h f =
         (subst (λ (z : ℕ). Runs b ts i → (tip_at S z).id ≢ (tip_at S i).id → Beats done (cand_of S (tip_in ts i).best) (tip_at S i) (tip_at S z)) (sym g) f) r y
 
 -- a mark at p, q is one of the two, or was there
-abbrev Which : List (List ℕ) → ℕ → ℕ → ℕ → ℕ → Type 0
+abbrev Which : List (List Bool) → ℕ → ℕ → ℕ → ℕ → Type 0
 Which marks i j p q = ((p ≡ i) × (q ≡ j)) ⊎ (((p ≡ j) × (q ≡ i)) ⊎ Marked marks p q)
 
-module _ {marks : List (List ℕ)} (sq : Square marks) (i j : ℕ) (h : i < 256) (k : j < 256) where
-  abbrev two : List (List ℕ)
+module _ {marks : List (List Bool)} (sq : Square marks) (i j : ℕ) (h : i < 256) (k : j < 256) where
+  abbrev two : List (List Bool)
   two = marking marks i j
 
-  abbrev all : List (List ℕ)
+  abbrev all : List (List Bool)
   all = marking two j i
 
   both_back : (p q : ℕ) → Marked all p q → Which marks i j p q
@@ -131,7 +133,7 @@ module _ {marks : List (List ℕ)} (sq : Square marks) (i j : ℕ) (h : i < 256)
   both_second : Marked all j i
   both_second = let s = square_kept marks i j sq in mark_same two j i (omega (arith, s.rows_long)) (omega (arith, s.row_long j k))
 
-pub marked_both : {es : List (List Cell)} {b : ℕ} {marks : List (List ℕ)} → Marks es b marks → (i j : ℕ) → i < b → j < b → b ≤ 256 → Marks es b (marking (marking marks i j) j i)
+pub marked_both : {es : List (List Cell)} {b : ℕ} {marks : List (List Bool)} → Marks es b marks → (i j : ℕ) → i < b → j < b → b ≤ 256 → Marks es b (marking (marking marks i j) j i)
 marked_both {es} {b} {marks} mk i j h k l =
     record {
       square = square_kept (marking marks i j) j i (square_kept marks i j mk.square);
@@ -146,7 +148,7 @@ marked_both {es} {b} {marks} mk i j h k l =
     hj : j < 256
     hj = omega arith
 
-    now : List (List ℕ)
+    now : List (List Bool)
     now = marking (marking marks i j) j i
 
     turned : (p q : ℕ) → p < 256 → q < 256 → Which marks i j p q → Marked now q p

@@ -5,7 +5,7 @@ use mathlib.Core.List.{List}
 use Prim.Native.Nat.{ℕ, zero, suc, ◌+◌, ◌*◌, ◌≤◌, ◌<◌}
 use native.Mathlib.Decide.{ℕ_discrete}
 use native.Mathlib.Omega.{arith}
-use Rattle.tips.specs.Tips.{Tip}
+use Rattle.tips.specs.declared.Tip.{Tip}
 use Rattle.look.specs.Counts.{stale}
 use Rattle.grid_state.specs.Sweep.{Sweep}
 use Rattle.grid_state.specs.ToDo.{stales, to_do}

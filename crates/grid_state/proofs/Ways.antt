@@ -1,4 +1,5 @@
 -- A tip on its way into a cell. Main theorems: `way_open` (it begins), `way_busy` (it has looked at the walls there), `way_end` and `way_later` (it has met the tips there, and is in the cell).
+use mathlib.Core.Bool.{Bool, false}
 use mathlib.Core.List.Memᴰ
 use mathlib.Core.List.{List, [], ◌∷◌}
 use mathlib.Core.Logic.{inl, inr, ◌≢◌}
@@ -30,7 +31,8 @@ use Rattle.cells.proofs.Count.{first_good}
 use Rattle.cells.specs.Entered.{Entered}
 use Rattle.cells.proofs.Entered.{entered-first}
 use Rattle.event_queue.specs.Queue.{Slots}
-use Rattle.tips.specs.Tips.{Tip, tip_in, with_best, with_base, with_cell}
+use Rattle.tips.specs.declared.Tip.{Tip}
+use Rattle.tips.specs.Tips.{tip_in, with_best, with_base, with_cell}
 use Rattle.pair_marks.specs.Marks.{Marked}
 use Rattle.grid_steps.specs.Steps.{InGrid, MayLookHere, MayEnter, Offered, Here, entry_in}
 use Rattle.grid_state.specs.Sweep.{Crowd, Sweep}
@@ -188,7 +190,6 @@ module _ {S : Listing} {side b i : ℕ} {k : Cell} {done : List Row} {es : List 
             tip_within = way_place.0;
             in_grid = subst (λ (t : Tip). InGrid side t.cell) (sym own) y.in_grid;
             fine = subst (λ (t : Tip). Fine t.best) (sym own) (has_met.busy.looked.fine i y.runs.0);
-            id_in = subst (λ (t : Tip). t.best.id ≤ 65535) (sym own) (has_met.busy.looked.best i has_met.busy.runs).walls.stands.id_in;
           }
 
   -- and is there
@@ -230,7 +231,7 @@ module _ {S : Listing} {side b i : ℕ} {k : Cell} {done : List Row} {es : List 
     last =
         record {
           ended_same = λ j. ap (λ (z : List Tip). (tip_in z j).ended) e.tips ∙ field_kept (λ (t : Tip). t.ended) tips_met i _ refl j;
-          marks_kept = λ p q. subst (λ (z : List (List ℕ)). Marked z p q) (sym e.marks);
+          marks_kept = λ p q. subst (λ (z : List (List Bool)). Marked z p q) (sym e.marks);
           live_kept = λ j r. subst (LiveCause S done) (sym (ap (λ (z : List Tip). (tip_in z j).best) e.tips ∙ field_kept (λ (t : Tip). t.best) tips_met i _ refl j));
         }
 
@@ -244,7 +245,7 @@ abbrev pub having : Sweep → List Tip → Sweep
 having w ts = record { crowd = record { tips = ts; pending = w.crowd.pending; marks = w.crowd.marks }; members = w.members; entered = w.entered }
 
 module _ {S : Listing} {g b : ℕ} (fig : Figure g) {done : List Row} {es : List (List Cell)} {w : Sweep} (st : StateOf S (side g) b 256 done es w)
-    (more : b < length S.tracks) (runs : (tip_in w.crowd.tips b).ended ≡ 0) (none : cells_at es b ≡ []) {c : Cause} (edge : OfEdge S (tip_at S b) c) where
+    (more : b < length S.tracks) (runs : (tip_in w.crowd.tips b).ended ≡ false) (none : cells_at es b ≡ []) {c : Cause} (edge : OfEdge S (tip_at S b) c) where
   abbrev ts : List Tip
   ts = w.crowd.tips
 
@@ -294,9 +295,9 @@ module _ {S : Listing} {g b : ℕ} (fig : Figure g) {done : List Row} {es : List
         };
         placed = record {
           in_grid = at_put (λ (j : ℕ) (t : Tip). j < b + 1 → j ≢ b → InGrid (side g) t.cell) ts b opened room_open (λ h n. absurd (n refl)) (λ j d h n. st.placed.in_grid j (before j h n).0 (before j h n).1);
-          at = at_put (λ (j : ℕ) (t : Tip). (j < b + 1) × (t.ended ≡ 0) → j ≢ b → Entered (tip_at S j) (rim (tip_at S j)) (side g) t.cell (cells_at es j)) ts b opened room_open
+          at = at_put (λ (j : ℕ) (t : Tip). (j < b + 1) × (t.ended ≡ false) → j ≢ b → Entered (tip_at S j) (rim (tip_at S j)) (side g) t.cell (cells_at es j)) ts b opened room_open
               (λ h n. absurd (n refl)) (λ j d h n. st.placed.at j ((before j h.0 n).0, h.1) (before j h.0 n).1);
-          ahead = at_put (λ (j : ℕ) (t : Tip). (j < b + 1) × (t.ended ≡ 0) → j ≢ b → Ahead S done (side g) (tip_at S j) t.cell) ts b opened room_open
+          ahead = at_put (λ (j : ℕ) (t : Tip). (j < b + 1) × (t.ended ≡ false) → j ≢ b → Ahead S done (side g) (tip_at S j) t.cell) ts b opened room_open
               (λ h n. absurd (n refl)) (λ j d h n. st.placed.ahead j ((before j h.0 n).0, h.1) (before j h.0 n).1);
         };
         listed = record {

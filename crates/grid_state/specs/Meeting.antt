@@ -1,5 +1,5 @@
 -- What the code does where a tip on its way into a cell meets the tips that have been there, and enters it.
-use Rattle.std.specs.Prelude.{◌≡◌, ◌⊎◌, ◌≢◌, List, [], ◌∷◌, ℕ, ◌+◌, ◌≤◌, ◌<◌, length, get_or, set}
+use Rattle.std.specs.Prelude.{false, ◌≡◌, ◌⊎◌, ◌≢◌, List, [], ◌∷◌, ℕ, ◌+◌, ◌≤◌, ◌<◌, length, get_or, set}
 use Rattle.std.proofs.Math.Option.{some}
 use Rattle.sheet.specs.Accepted.{Accepted}
 use Rattle.sheet.specs.Listing.{Listing, ◌∈◌}
@@ -9,7 +9,8 @@ use Rattle.cause.specs.declared.Cause.{Cause}
 use Rattle.cause.specs.Cause.{cand_of}
 use Rattle.cells.specs.declared.Cell.{Cell}
 use Rattle.event_queue.specs.Queue.{Slots}
-use Rattle.tips.specs.Tips.{Tip, tip_in, with_cell}
+use Rattle.tips.specs.declared.Tip.{Tip}
+use Rattle.tips.specs.Tips.{tip_in, with_cell}
 use Rattle.pair_marks.specs.Marks.{Marked, marking}
 use Rattle.grid_steps.specs.Steps.{InGrid, Offered, Here, entry_in}
 use Rattle.grid_state.specs.Sweep.{Crowd, Sweep}
@@ -19,8 +20,8 @@ use Rattle.grid_state.specs.State.{code_of, Runs, Looked, Marks, Queued}
 
 -- the tip at j, if it runs, looks at the tip at i, and its event comes anew
 pub data Noticed (S : Listing) (side i j : ℕ) (ts : List Tip) (s : Slots) (ts' : List Tip) (s' : Slots) : Type 0 where
-  looks : (tip_in ts j).ended ≡ 0 → Offered S j i ts ts' → s' ≡ set s j (some (entry_in S side ts' j)) → Noticed S side i j ts s ts' s'
-  has_ended : ((tip_in ts j).ended ≡ 0 → ⊥) → ts' ≡ ts → s' ≡ s → Noticed S side i j ts s ts' s'
+  looks : (tip_in ts j).ended ≡ false → Offered S j i ts ts' → s' ≡ set s j (some (entry_in S side ts' j)) → Noticed S side i j ts s ts' s'
+  has_ended : ((tip_in ts j).ended ≡ false → ⊥) → ts' ≡ ts → s' ≡ s → Noticed S side i j ts s ts' s'
 
 pub record Both (S : Listing) (side i j : ℕ) (w w' : Crowd) : Type 0 where
   pub between : List Tip

@@ -1,5 +1,5 @@
 -- The state of the grid run: between two events (`StateOf` with x = 256), while the tip at i is on its way into cell k (`WayOf`), while tips begin (`Starting`), with k rows out (`Going`).
-use Rattle.std.specs.Prelude.{◌≡◌, List, [], ◌∷◌, ℕ, ◌≤◌, ◌<◌, length, take}
+use Rattle.std.specs.Prelude.{false, ◌≡◌, List, [], ◌∷◌, ℕ, ◌≤◌, ◌<◌, length, take}
 use Rattle.sheet.specs.Accepted.{Accepted}
 use Rattle.sheet.specs.Listing.{Listing, ◌∈◌}
 use Rattle.rule.specs.declared.Row.{Row}
@@ -51,7 +51,7 @@ pub record Starting (S : Listing) (g i : ℕ) (w : Sweep) : Type 0 where
   pub es : List (List Cell)
   pub figure : Figure g
   pub state : StateOf S (side g) i 256 [] es w
-  pub none_ended : (j : ℕ) → (tip_in w.crowd.tips j).ended ≡ 0
+  pub none_ended : (j : ℕ) → (tip_in w.crowd.tips j).ended ≡ false
   pub none_in : (j : ℕ) → i ≤ j → cells_at es j ≡ []
 
 -- the rows so far are the first k of the roll

@@ -1,5 +1,5 @@
 -- What the grid run knows between two events (SHEETS 6.8). `es` has for each tip the cells that it has entered, the newest first; `done` the rows so far, the newest first; b tips have begun.
-use Rattle.std.specs.Prelude.{◌≡◌, ◌≢◌, List, [], ◌∷◌, ℕ, ◌+◌, ◌*◌, ◌≤◌, ◌<◌, length, get_or}
+use Rattle.std.specs.Prelude.{Bool, false, ◌≡◌, ◌≢◌, List, [], ◌∷◌, ℕ, ◌+◌, ◌*◌, ◌≤◌, ◌<◌, length, get_or}
 use Rattle.std.proofs.Math.Option.{none, some}
 use Rattle.cell_members.specs.Members.{CELLS}
 use Rattle.fraction.specs.Time.{Time}
@@ -14,7 +14,7 @@ use Rattle.rule.specs.EdgeTime.{rim}
 use Rattle.rule.specs.WallTime.{wall_time}
 use Rattle.rule.specs.Meanwhile.{Beats}
 use Rattle.cause.specs.declared.Cause.{Cause}
-use Rattle.cause.specs.Cause.{tip_at, wall_at, cand_of, Fine, Stands}
+use Rattle.cause.specs.Cause.{rank, tip_at, wall_at, cand_of, Fine, Stands}
 use Rattle.cause.specs.Looked.{Near}
 use Rattle.cells.specs.declared.Cell.{Cell}
 use Rattle.cells.specs.Touched.{CellsOf}
@@ -22,7 +22,8 @@ use Rattle.cells.specs.Cut.{past, ◌<ᶜ◌}
 use Rattle.cells.specs.Entered.{Entered}
 use Rattle.cells.specs.OneCell.{entry}
 use Rattle.event_queue.specs.Queue.{Slots, slot}
-use Rattle.tips.specs.Tips.{Tip, tip_in}
+use Rattle.tips.specs.declared.Tip.{Tip}
+use Rattle.tips.specs.Tips.{tip_in}
 use Rattle.look.specs.Ends.{end_of, Ends}
 use Rattle.pair_marks.specs.Marks.{Marked, Square}
 use Rattle.grid_steps.specs.Steps.{region_of, InGrid, entry_in}
@@ -43,7 +44,7 @@ total (l ∷ es) = length l + total es
 
 -- the tip at j has begun and has not ended
 abbrev pub Runs : ℕ → List Tip → ℕ → Type 0
-Runs b ts j = (j < b) × ((tip_in ts j).ended ≡ 0)
+Runs b ts j = (j < b) × ((tip_in ts j).ended ≡ false)
 
 -- ---- what has been looked at
 
@@ -57,24 +58,24 @@ pub record Walls (S : Listing) (side : ℕ) (l : List Cell) (a : Track) (c : Cau
   pub at_rim : Below (cand_of S c) (rim a) by_rim
   pub at_walls : (w : ℕ) → w < length S.walls → Tried side l (wall_at S w) → (u : Time) → wall_time a (wall_at S w) ≡ when u → Below (cand_of S c) u (by_bar (wall_at S w))
 
-pub record Best (S : Listing) (done : List Row) (side : ℕ) (l : List Cell) (marks : List (List ℕ)) (j : ℕ) (c : Cause) : Type 0 where
+pub record Best (S : Listing) (done : List Row) (side : ℕ) (l : List Cell) (marks : List (List Bool)) (j : ℕ) (c : Cause) : Type 0 where
   pub walls : Walls S side l (tip_at S j) c
   pub at_tips : (k : ℕ) → k < length S.tracks → Marked marks j k → (tip_at S k).id ≢ (tip_at S j).id → Beats done (cand_of S c) (tip_at S j) (tip_at S k)
 
 pub record Base (S : Listing) (side : ℕ) (l : List Cell) (a : Track) (c : Cause) : Type 0 where
   pub walls : Walls S side l a c
-  pub no_track : 0 < c.class
+  pub no_track : 0 < rank c.class
 
-pub record Looked (S : Listing) (done : List Row) (side : ℕ) (es : List (List Cell)) (b : ℕ) (ts : List Tip) (marks : List (List ℕ)) : Type 0 where
+pub record Looked (S : Listing) (done : List Row) (side : ℕ) (es : List (List Cell)) (b : ℕ) (ts : List Tip) (marks : List (List Bool)) : Type 0 where
   pub long : length ts ≡ 256
   pub ends : Ends S ts done
   pub fine : (j : ℕ) → j < b → Fine (tip_in ts j).best
   pub best : (j : ℕ) → Runs b ts j → Best S done side (cells_at es j) marks j (tip_in ts j).best
   pub base : (j : ℕ) → Runs b ts j → Base S side (cells_at es j) (tip_at S j) (tip_in ts j).base
-  pub gone : (j : ℕ) → j < b → ((tip_in ts j).ended ≡ 0 → ⊥) → CellsOf (tip_at S j) (end_of (tip_in ts j)) side (cells_at es j)
+  pub gone : (j : ℕ) → j < b → ((tip_in ts j).ended ≡ false → ⊥) → CellsOf (tip_at S j) (end_of (tip_in ts j)) side (cells_at es j)
 
 -- two that have entered one cell have marks beside each other
-pub record Marks (es : List (List Cell)) (b : ℕ) (marks : List (List ℕ)) : Type 0 where
+pub record Marks (es : List (List Cell)) (b : ℕ) (marks : List (List Bool)) : Type 0 where
   pub square : Square marks
   pub both : (i j : ℕ) → i < 256 → j < 256 → Marked marks i j → Marked marks j i
   pub begun : (i j : ℕ) → i < 256 → j < 256 → Marked marks i j → (i < b) × (j < b)

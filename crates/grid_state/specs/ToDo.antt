@@ -1,6 +1,6 @@
 -- How much the grid run has still to do, so that it ends: rows, cells, and causes to be looked at again.
 use Rattle.std.specs.Prelude.{cond, List, ℕ, zero, suc, ◌+◌, ◌*◌, ◌-◌}
-use Rattle.tips.specs.Tips.{Tip}
+use Rattle.tips.specs.declared.Tip.{Tip}
 use Rattle.look.specs.Counts.{stale}
 use Rattle.grid_state.specs.Sweep.{Sweep}
 

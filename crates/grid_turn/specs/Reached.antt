@@ -1,12 +1,13 @@
--- Something is reached: the tip ends, or looks again. What the code asks and does, over the sheet and the views of the slices.
+-- Something is reached: the tip ends, or looks again. What the code asks and does, over the sheet and what the tables stand for.
 use Rattle.std.specs.Prelude.{◌≡◌, true, false, List, [], ℕ, ◌+◌, ◌<◌, get_or, set}
 use Rattle.std.proofs.Math.Option.{some}
 use Rattle.sheet.specs.Listing.{Listing}
 use Rattle.rule.specs.declared.Ending.{Ending}
-use Rattle.cause.specs.Cause.{Fine}
+use Rattle.cause.specs.Cause.{rank, Fine}
 use Rattle.ending.specs.Ended.{EndingOf}
 use Rattle.ending.specs.Finished.{MayEnd, Finished}
-use Rattle.tips.specs.Tips.{Tip, tip_in}
+use Rattle.tips.specs.declared.Tip.{Tip}
+use Rattle.tips.specs.Tips.{tip_in}
 use Rattle.look.specs.Counts.{MayTell, stale}
 use Rattle.look.specs.Tracks.{MayLookOn, LookedAgain}
 use Rattle.grid_steps.specs.Steps.{MayEnter, entry_in}
@@ -18,7 +19,7 @@ use Rattle.grid_state.specs.Sweep.{Crowd}
 pub record OfTrack (i id : ℕ) (ts : List Tip) : Type 0 where
   pub tip_within : i < 256
   pub fine : Fine (tip_in ts i).best
-  pub a_track : (tip_in ts i).best.class ≡ 0
+  pub a_track : rank (tip_in ts i).best.class ≡ 0
   pub named : (tip_in ts i).best.id ≡ id
 
 pub record MayReach (S : Listing) (side i id k : ℕ) (w : Crowd) : Type 0 where

@@ -1,5 +1,5 @@
 -- An event of the grid run has left the queue, and has been dealt with.
-use Rattle.std.specs.Prelude.{◌≡◌, ◌⊎◌, List, ℕ, ◌+◌, ◌*◌, ◌<◌, length}
+use Rattle.std.specs.Prelude.{◌≡◌, ◌⊎◌, Option, Some, None, List, ℕ, ◌+◌, ◌*◌, ◌<◌, length}
 use Rattle.std.proofs.Math.Option.{none}
 use Rattle.std.proofs.lemmas.List.Edits.{sets}
 use Rattle.fraction.specs.Time.{Time}
@@ -19,13 +19,11 @@ use Rattle.event_queue.specs.Queue.{slot, First}
 use Rattle.grid_state.specs.Sweep.{Sweep}
 use Rattle.grid_state.specs.Run.{Going}
 use Rattle.grid_state.specs.ToDo.{to_do}
-use Rattle.grid_turn.specs.declared.Outcome.{Outcome}
-use Rattle.grid_turn.specs.declared.Outcome.TheVariants.{Rows, Over}
 
 -- the row after the first k is written, or none
-pub data Wrote (S : Listing) (k : ℕ) (out : List ℕ) (r : Outcome) (out' : List ℕ) : Type 0 where
-  no_row : (r ≡ Over) ⊎ (r ≡ Rows k) → out' ≡ out → Wrote S k out r out'
-  one_row : r ≡ Rows (k + 1) → out' ≡ sets out (row_width * k) (row_bytes (next_row S k)) → Wrote S k out r out'
+pub data Wrote (S : Listing) (k : ℕ) (out : List ℕ) (r : Option ℕ) (out' : List ℕ) : Type 0 where
+  no_row : (r ≡ None) ⊎ (r ≡ Some k) → out' ≡ out → Wrote S k out r out'
+  one_row : r ≡ Some (k + 1) → out' ≡ sets out (row_width * k) (row_bytes (next_row S k)) → Wrote S k out r out'
 
 -- an event of tip a left the queue at the time τ: where a cell is entered, that is when the trace of a, to its exact end, enters it (SHEETS 6.4, 6.8)
 abbrev pub InTime : Listing → ℕ → Track → Event → Time → Type 0
@@ -44,9 +42,9 @@ pub record Happened (S : Listing) (g k : ℕ) (w : Sweep) (k' : ℕ) (w' : Sweep
   pub less : to_do (length S.tracks) w' k' < to_do (length S.tracks) w k
 
 -- by the answer; there is none where no tip has a pending event
-abbrev pub Turns : Listing → ℕ → ℕ → Sweep → Outcome → Sweep → Type 0
-Turns S g k w (Rows k') w' = Happened S g k w k' w'
-Turns S g k w Over w' = ((j : ℕ) → slot w.crowd.pending j ≡ none) × (w' ≡ w)
+abbrev pub Turns : Listing → ℕ → ℕ → Sweep → Option ℕ → Sweep → Type 0
+Turns S g k w (Some k') w' = Happened S g k w k' w'
+Turns S g k w None w' = ((j : ℕ) → slot w.crowd.pending j ≡ none) × (w' ≡ w)
 
-pub record Turned (S : Listing) (g k : ℕ) (w : Sweep) (r : Outcome) (w' : Sweep) : Type 0 where
+pub record Turned (S : Listing) (g k : ℕ) (w : Sweep) (r : Option ℕ) (w' : Sweep) : Type 0 where
   pub turns : Turns S g k w r w'

@@ -10,6 +10,7 @@ use std::io::Read;
 
 // Reads until the buffer is full or the input ends, and gives how many bytes it put at the buffer's start: the first of the input, as many as there is
 // room for. A read that fails, or that a signal interrupts, ends it with that error; what came before stands in the buffer.
+// A `while` over `read`: a read says how far on the next one goes, and std's `read_exact` says little of the buffer after an error.
 pub fn read_full<R: Read>(input: &mut R, buf: &mut [u8]) -> io::Result<usize>
     ensures in_buffer { IfOk result (λ n. n ≤ length buf.new) }
     ensures first { IfOk result (λ n. IfSome (R.remaining input.old) (λ s. take n buf.new ≡ take (length buf.new) s)) }

@@ -6,15 +6,14 @@ use native.Mathlib.Decide.{dec_le, ℕ_discrete}
 use native.Mathlib.Omega.{arith}
 use lib.ListN.{length}
 use Rattle.byte_order.specs.Bytes.{le_of}
-use Rattle.names.specs.declared.Found.{Found}
-use Rattle.names.specs.declared.Found.TheVariants.{At, Nothing}
+use Rattle.std.specs.Prelude.{Option, Some, None}
 use Rattle.names.specs.NameList.{name_of}
 use Rattle.names.proofs.Search.{found, from_start, cut_short, hit, miss}
 
 -- what is found lies within n bytes
-abbrev pub Inside : ℕ → Found → Type 0
-Inside n (At start size) = start + size ≤ n
-Inside n Nothing = 0 ≤ n
+abbrev pub Inside : ℕ → Option (ℕ × ℕ) → Type 0
+Inside n (Some (start, size)) = start + size ≤ n
+Inside n None = 0 ≤ n
 
 -- at one place: the entry is cut short, or it is the one, or a later one is
 module _ (s : List ℕ) (at q size : ℕ) (sized : size ≡ le_of 1 s (at + 2)) (later : 3 ≤ length s - at → Inside (length s) (found s (at + 3 + size) q)) where

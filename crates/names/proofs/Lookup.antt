@@ -8,7 +8,7 @@ use native.Mathlib.Omega.{arith}
 use lib.ListN.{length, take, drop, length-append}
 use lib.Seq.{take_at, drop-append-add}
 use Rattle.byte_order.specs.Bytes.{AllBytes}
-use Rattle.names.specs.declared.Found.TheVariants.{At, Nothing}
+use Rattle.std.specs.Prelude.{Some, None}
 use Rattle.names.specs.NameList.{Entry, entry_bytes, list_bytes, entries_of, first_named, name_of}
 use Rattle.names.proofs.Search.{none, first, next}
 use Rattle.names.proofs.Written.{AllFit, CutShort, entry_length, behind_header, read_back, every_list}
@@ -46,11 +46,11 @@ first_or_none q (e ∷ l) = go (ℕ_discrete e.id q) (first_or_none q l)
         })
     go (no h) (inr w) = inr (h, w)
 
-none_of : (at : ℕ) (l : List Entry) (q : ℕ) → Without q l → first_named at l q ≡ Nothing
+none_of : (at : ℕ) (l : List Entry) (q : ℕ) → Without q l → first_named at l q ≡ None
 none_of at [] q h = none at q
 none_of at (e ∷ l) q h = next at e l q h.0 ∙ none_of (at + 3 + length e.name) l q h.1
 
-first_of : (at : ℕ) (before : List Entry) (e : Entry) (after : List Entry) (q : ℕ) → Without q before → e.id ≡ q → first_named at (before ++ e ∷ after) q ≡ At (at + length (list_bytes before) + 3) (length e.name)
+first_of : (at : ℕ) (before : List Entry) (e : Entry) (after : List Entry) (q : ℕ) → Without q before → e.id ≡ q → first_named at (before ++ e ∷ after) q ≡ Some (at + length (list_bytes before) + 3, length e.name)
 unfolding list_bytes
 first_of at [] e after q h i = let z : at + 0 + 3 ≡ at + 3 = omega arith in first at e after q i ∙ rw z
 first_of at (d ∷ before) e after q h i =
@@ -61,12 +61,12 @@ first_of at (d ∷ before) e after q h i =
 -- ---- in any list
 
 module _ (s : List ℕ) (q : ℕ) where
-  pub lookup_none : Without q (entries_of s) → name_of s q ≡ Nothing
+  pub lookup_none : Without q (entries_of s) → name_of s q ≡ None
   unfolding name_of
   lookup_none w = none_of 0 (entries_of s) q w
 
   -- the name stands behind the entries before, and three bytes of its own entry
-  pub lookup_first : (f : First q (entries_of s)) → name_of s q ≡ At (length (list_bytes f.before) + 3) (length f.hit.name)
+  pub lookup_first : (f : First q (entries_of s)) → name_of s q ≡ Some (length (list_bytes f.before) + 3, length f.hit.name)
   unfolding name_of
   lookup_first f =
       let z : 0 + length (list_bytes f.before) + 3 ≡ length (list_bytes f.before) + 3 = omega arith in
@@ -82,7 +82,7 @@ joined [] m = refl
 joined (e ∷ l) m = rw (joined l m, append_assoc)
 
 module _ (before : List Entry) (e : Entry) (after : List Entry) (cut : List ℕ) where
-  pub first_found : AllFit (before ++ e ∷ after) → CutShort cut → Without e.id before → name_of (list_bytes (before ++ e ∷ after) ++ cut) e.id ≡ At (length (list_bytes before) + 3) (length e.name)
+  pub first_found : AllFit (before ++ e ∷ after) → CutShort cut → Without e.id before → name_of (list_bytes (before ++ e ∷ after) ++ cut) e.id ≡ Some (length (list_bytes before) + 3, length e.name)
   first_found h c w =
       lookup_first (list_bytes (before ++ e ∷ after) ++ cut) e.id
       (record {
@@ -101,7 +101,7 @@ module _ (before : List Entry) (e : Entry) (after : List Entry) (cut : List ℕ)
       rw (joined before (e ∷ after), append_assoc (list_bytes before) (entry_bytes e ++ list_bytes after) cut, drop-append-add (list_bytes before) (entry_bytes e ++ list_bytes after ++ cut) 3, append_assoc (entry_bytes e) (list_bytes after) cut, behind_header e (list_bytes after ++ cut))
       (take_at e.name (list_bytes after ++ cut) (length e.name) refl)
 
-pub not_found : (l : List Entry) (cut : List ℕ) (q : ℕ) → AllFit l → CutShort cut → Without q l → name_of (list_bytes l ++ cut) q ≡ Nothing
+pub not_found : (l : List Entry) (cut : List ℕ) (q : ℕ) → AllFit l → CutShort cut → Without q l → name_of (list_bytes l ++ cut) q ≡ None
 not_found l cut q h c w = lookup_none (list_bytes l ++ cut) q (rw (read_back l cut h c) w)
 
 -- ---- in any list of bytes

@@ -8,20 +8,19 @@ use lib.Seq.{get_or-take, get_or-drop}
 use denote.Ref.{Bor}
 use Rattle.rule.specs.declared.Ending.{Ending}
 use Rattle.rule.specs.declared.Ending.TheVariants.{ByTrack, Meeting, ByWall, Edge}
-use Rattle.names.specs.declared.Found.{Found}
-use Rattle.names.specs.declared.Found.TheVariants.{At, Nothing}
+use Rattle.std.specs.Prelude.{Option, Some, None}
 use Rattle.names.specs.NameList.{name_of}
 use Rattle.names.specs.Partner.{Part, Lies, IsNamed, IsPart, or_empty, of_tracks, of_walls, partner_name}
 use Rattle.names.proofs.Inside.{Inside, name_inside}
 
 module _ (tracks walls r : Bor (List ℕ)) where
-  pub in_tracks : (f : Found) → IsNamed tracks tracks f r → IsPart tracks walls (or_empty of_tracks f) r
-  in_tracks (At start size) h = h
-  in_tracks Nothing h = h
+  pub in_tracks : (f : Option (ℕ × ℕ)) → IsNamed tracks tracks f r → IsPart tracks walls (or_empty of_tracks f) r
+  in_tracks (Some (start, size)) h = h
+  in_tracks None h = h
 
-  pub in_walls : (f : Found) → IsNamed tracks walls f r → IsPart tracks walls (or_empty of_walls f) r
-  in_walls (At start size) h = h
-  in_walls Nothing h = h
+  pub in_walls : (f : Option (ℕ × ℕ)) → IsNamed tracks walls f r → IsPart tracks walls (or_empty of_walls f) r
+  in_walls (Some (start, size)) h = h
+  in_walls None h = h
 
 -- ---- the bytes of the part
 
@@ -31,13 +30,13 @@ Within tracks walls (of_tracks start size) = start + size ≤ length tracks
 Within tracks walls (of_walls start size) = start + size ≤ length walls
 
 module _ (tracks walls : List ℕ) where
-  track_inside : (f : Found) → Inside (length tracks) f → Within tracks walls (or_empty of_tracks f)
-  track_inside (At start size) h = h
-  track_inside Nothing h = omega arith
+  track_inside : (f : Option (ℕ × ℕ)) → Inside (length tracks) f → Within tracks walls (or_empty of_tracks f)
+  track_inside (Some (start, size)) h = h
+  track_inside None h = omega arith
 
-  wall_inside : (f : Found) → Inside (length walls) f → Within tracks walls (or_empty of_walls f)
-  wall_inside (At start size) h = h
-  wall_inside Nothing h = omega arith
+  wall_inside : (f : Option (ℕ × ℕ)) → Inside (length walls) f → Within tracks walls (or_empty of_walls f)
+  wall_inside (Some (start, size)) h = h
+  wall_inside None h = omega arith
 
   pub partner_inside : (e : Ending) → Within tracks walls (partner_name tracks walls e)
   unfolding partner_name

@@ -8,24 +8,23 @@ use lib.Seq.{drop-drop}
 use borrow.Author.Tests.{eq-eqb, ne_eqb}
 use Rattle.byte_order.specs.Bytes.{le_of}
 use Rattle.byte_order.proofs.Bytes.{le_drop}
-use Rattle.names.specs.declared.Found.{Found}
-use Rattle.names.specs.declared.Found.TheVariants.{At, Nothing}
+use Rattle.std.specs.Prelude.{Option, Some, None}
 use Rattle.names.specs.NameList.{Entry, entry, entry_width, entries_of, first_named, name_of}
 use Rattle.names.proofs.Entries.{whole_front, cut_front}
 
 -- what is found in the entries from a place on
-abbrev pub found : List ℕ → ℕ → ℕ → Found
+abbrev pub found : List ℕ → ℕ → ℕ → Option (ℕ × ℕ)
 found s at q = first_named at (entries_of (drop at s)) q
 
 pub from_start : (s : List ℕ) (q : ℕ) → found s 0 q ≡ name_of s q
 unfolding name_of
 from_start s q = refl
 
-pub none : (at q : ℕ) → first_named at [] q ≡ Nothing
+pub none : (at q : ℕ) → first_named at [] q ≡ None
 unfolding first_named
 none at q = refl
 
-pub first : (at : ℕ) (e : Entry) (l : List Entry) (q : ℕ) → e.id ≡ q → first_named at (e ∷ l) q ≡ At (at + 3) (length e.name)
+pub first : (at : ℕ) (e : Entry) (l : List Entry) (q : ℕ) → e.id ≡ q → first_named at (e ∷ l) q ≡ Some (at + 3, length e.name)
 unfolding first_named
 first at e l q h = simp (eq-eqb _ _ h)
 
@@ -40,7 +39,7 @@ module _ (s : List ℕ) (at q size : ℕ) (sized : size ≡ le_of 1 s (at + 2)) 
   length-there : le_of 1 (drop at s) 2 ≡ size
   length-there = le_drop 1 at s 2 ∙ sym sized
 
-  pub cut_short : length s - at < 3 + size → found s at q ≡ Nothing
+  pub cut_short : length s - at < 3 + size → found s at q ≡ None
   cut_short h =
       let short : length (drop at s) < entry_width (drop at s) = rw length-there (simp length-drop h) in
       ap (λ (l : List Entry). first_named at l q) (cut_front (drop at s) short) ∙ none at q
@@ -56,8 +55,8 @@ module _ (s : List ℕ) (at q size : ℕ) (sized : size ≡ le_of 1 s (at + 2)) 
         let p : at + (3 + size) ≡ at + 3 + size = omega arith in
         rw (length-there, le_drop 2 at s 0, z, drop-drop (3 + size) at s, p) at (whole_front (drop at s) h)
 
-    pub hit : le_of 2 s at ≡ q → found s at q ≡ At (at + 3) size
-    hit h = ap (λ (l : List Entry). first_named at l q) whole ∙ first at _ _ q h ∙ ap (At (at + 3)) name_length
+    pub hit : le_of 2 s at ≡ q → found s at q ≡ Some (at + 3, size)
+    hit h = ap (λ (l : List Entry). first_named at l q) whole ∙ first at _ _ q h ∙ ap (λ (n : ℕ). Some (at + 3, n)) name_length
 
     pub miss : (le_of 2 s at ≡ q → ⊥) → found s at q ≡ found s (at + 3 + size) q
     miss h =

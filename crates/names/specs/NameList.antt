@@ -1,8 +1,6 @@
 -- Name lists (SHEETS 8.1, 8.3): their entries, and the name of an id.
-use Rattle.std.specs.Prelude.{cond, List, [], ◌∷◌, ◌++◌, ℕ, zero, suc, ◌+◌, eqb, leb, length, take, drop}
+use Rattle.std.specs.Prelude.{cond, Option, Some, None, List, [], ◌∷◌, ◌++◌, ℕ, zero, suc, ◌+◌, eqb, leb, length, take, drop}
 use Rattle.byte_order.specs.Bytes.{le_bytes, le_of}
-use Rattle.names.specs.declared.Found.{Found}
-use Rattle.names.specs.declared.Found.TheVariants.{At, Nothing}
 
 -- an id and a name (SHEETS 8.1)
 pub record Entry : Type 0 where
@@ -46,11 +44,11 @@ entries_of s = whole_entries (length s) s
 -- ---- looking up
 
 -- the name's bytes in the first entry with an id (SHEETS 8.3): their place and their number, for entries that start at a place
-unfoldable pub first_named : ℕ → List Entry → ℕ → Found
-first_named at [] q = Nothing
+unfoldable pub first_named : ℕ → List Entry → ℕ → Option (ℕ × ℕ)
+first_named at [] q = None
 first_named at (e ∷ l) q =
-    cond (eqb e.id q) (At (at + 3) (length e.name)) (first_named (at + 3 + length e.name) l q)
+    cond (eqb e.id q) (Some (at + 3, length e.name)) (first_named (at + 3 + length e.name) l q)
 
 -- where the name of an id lies in a list (SHEETS 8.3)
-unfoldable pub name_of : List ℕ → ℕ → Found
+unfoldable pub name_of : List ℕ → ℕ → Option (ℕ × ℕ)
 name_of s q = first_named 0 (entries_of s) q

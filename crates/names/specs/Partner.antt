@@ -1,10 +1,8 @@
 -- The partner's name (SHEETS 8.2 to 8.4): which part of which list is handed back.
-use Rattle.std.specs.Prelude.{◌≡◌, List, ℕ, ◌+◌, take, drop}
+use Rattle.std.specs.Prelude.{◌≡◌, Option, Some, None, List, ℕ, ◌+◌, take, drop}
 use Rattle.std.specs.Borrow.{Bor}
 use Rattle.rule.specs.declared.Ending.{Ending}
 use Rattle.rule.specs.declared.Ending.TheVariants.{ByTrack, Meeting, ByWall, Edge}
-use Rattle.names.specs.declared.Found.{Found}
-use Rattle.names.specs.declared.Found.TheVariants.{At, Nothing}
 use Rattle.names.specs.NameList.{name_of}
 
 -- a part of one of the two lists (SHEETS 8.2, 8.3): where it starts, and how many bytes it has
@@ -13,9 +11,9 @@ pub data Part : Type 0 where
   of_walls : ℕ → ℕ → Part
 
 -- the part found, or the empty part at the start of the track list (SHEETS 8.4)
-abbrev pub or_empty : (ℕ → ℕ → Part) → Found → Part
-or_empty list (At start size) = list start size
-or_empty list Nothing = of_tracks 0 0
+abbrev pub or_empty : (ℕ → ℕ → Part) → Option (ℕ × ℕ) → Part
+or_empty list (Some (start, size)) = list start size
+or_empty list None = of_tracks 0 0
 
 -- which list is searched, by the kind of ending (SHEETS 8.2); none for the edge (SHEETS 8.4)
 unfoldable pub partner_name : List ℕ → List ℕ → Ending → Part
@@ -36,6 +34,6 @@ IsPart tracks walls (of_tracks start size) r = Lies tracks start size r
 IsPart tracks walls (of_walls start size) r = Lies walls start size r
 
 -- r is the name found in a list, or the empty part at the start of the track list (SHEETS 8.3, 8.4)
-abbrev pub IsNamed : Bor (List ℕ) → Bor (List ℕ) → Found → Bor (List ℕ) → Type 0
-IsNamed tracks list (At start size) r = Lies list start size r
-IsNamed tracks list Nothing r = Lies tracks 0 0 r
+abbrev pub IsNamed : Bor (List ℕ) → Bor (List ℕ) → Option (ℕ × ℕ) → Bor (List ℕ) → Type 0
+IsNamed tracks list (Some (start, size)) r = Lies list start size r
+IsNamed tracks list None r = Lies tracks 0 0 r

@@ -11,11 +11,9 @@ use Rattle.sheet.specs.Lent.{and_then}
 use Rattle.sheet.specs.Returned.{accepted, gives}
 use Rattle.sheet.proofs.Lent.{said_given, put}
 use Rattle.rule.specs.declared.Row.{Row}
-use Rattle.row.specs.declared.Stored.{Stored}
-use Rattle.row.specs.declared.Stored.TheVariants.{Found, Nothing}
+use Rattle.std.specs.Prelude.{Option, Some, None, Result, Ok, Err}
 use Rattle.row.specs.Stored.{row_in, rows_in}
-use Rattle.sheet.specs.declared.Answer.{Answer}
-use Rattle.sheet.specs.declared.Answer.TheVariants.{Gives, Refused}
+use Rattle.sheet.specs.declared.Refusal.{Refusal}
 use Rattle.text.specs.Lines.{line_of}
 use Rattle.sheet.specs.Answer.{answered}
 use Rattle.text.specs.Printed.{Prints}
@@ -24,11 +22,11 @@ use Rattle.page.specs.Behind.{Behind, length_in}
 
 -- ---- one text
 
-length_given : (t : Answer) (n : ℕ) → answered t ≡ gives n → length_in t ≡ n
-length_given (Gives m) n e = cc
-length_given (Refused m p) n e = absurd (let z : ◌≡◌ {A = ℕ} 0 1 = cc in omega arith)
+length_given : (t : Result ℕ Refusal) (n : ℕ) → answered t ≡ gives n → length_in t ≡ n
+length_given (Ok m) n e = cc
+length_given (Err r) n e = absurd (let z : ◌≡◌ {A = ℕ} 0 1 = cc in omega arith)
 
-module _ {text before exit : List ℕ} {t : Answer} (h : Prints text before exit t) (room : length text ≤ length before) where
+module _ {text before exit : List ℕ} {t : Result ℕ Refusal} (h : Prints text before exit t) (room : length text ≤ length before) where
   pub text_long : length_in t ≡ length text
   unfolding and_then
   text_long = length_given t (length text) (h.answer ∙ said_given {v = accepted} (length text) (length before) (length text) refl room)
@@ -55,7 +53,7 @@ module _ (at : ℕ) (out : List ℕ) (h : at ≤ length out) where
   post_none = omega (arith, mid_long, length-drop at out, length-drop (length out - at) (drop at out))
 
 -- into the part of a buffer from `at` on, of which `lent` is lent
-pub in_part : {text before lent part : List ℕ} {t : Answer} {at end : ℕ} (more : List ℕ) → Prints text lent part t → length text ≤ length lent → end ≡ at + length_in t
+pub in_part : {text before lent part : List ℕ} {t : Result ℕ Refusal} {at end : ℕ} (more : List ℕ) → Prints text lent part t → length text ≤ length lent → end ≡ at + length_in t
     → at + (length lent + length more) ≡ length before → Behind text at before end (take at before ++ (part ++ more))
 in_part {text} {before} {lent} {part} {t} {at} {end} more h room e sizes =
     let n = text_long h room in
@@ -99,11 +97,11 @@ pub no_rows_yet : (s : List ℕ) (at : ℕ) (before : List ℕ) → Behind (line
 unfolding lines_of rows_in
 no_rows_yet s at before = nothing_put at before
 
-module _ (s : List ℕ) (k : ℕ) {at : ℕ} {before : List ℕ} {here : ℕ} {mid : List ℕ} {o : Stored} (h : Behind (lines_of (rows_in s k)) at before here mid) (e : o ≡ row_in s k) where
-  pub one_row_more : {row : Row} {end : ℕ} {exit : List ℕ} → o ≡ Found row → Behind (line_of row) here mid end exit → Behind (lines_of (rows_in s (k + 1))) at before end exit
+module _ (s : List ℕ) (k : ℕ) {at : ℕ} {before : List ℕ} {here : ℕ} {mid : List ℕ} {o : Option Row} (h : Behind (lines_of (rows_in s k)) at before here mid) (e : o ≡ row_in s k) where
+  pub one_row_more : {row : Row} {end : ℕ} {exit : List ℕ} → o ≡ Some row → Behind (line_of row) here mid end exit → Behind (lines_of (rows_in s (k + 1))) at before end exit
   unfolding rows_in
-  one_row_more {row} f b = let g : row_in s k ≡ Found row = sym e ∙ f in rw (add-one, g, lines_snoc (rows_in s k) row) (and_behind h b)
+  one_row_more {row} f b = let g : row_in s k ≡ Some row = sym e ∙ f in rw (add-one, g, lines_snoc (rows_in s k) row) (and_behind h b)
 
-  pub no_row_more : o ≡ Nothing → Behind (lines_of (rows_in s (k + 1))) at before here mid
+  pub no_row_more : o ≡ None → Behind (lines_of (rows_in s (k + 1))) at before here mid
   unfolding rows_in
-  no_row_more f = let g : row_in s k ≡ Nothing = sym e ∙ f in rw (add-one, g, append-nil) h
+  no_row_more f = let g : row_in s k ≡ None = sym e ∙ f in rw (add-one, g, append-nil) h

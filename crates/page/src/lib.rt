@@ -12,23 +12,18 @@ ghost use Rattle.page.specs.Behind.{Behind, length_in};
 ghost use Rattle.page.specs.Rows.{lines_of};
 ghost use Rattle.page.specs.Answer.{answer_of, answer_room};
 
-use grid_run::GridRolled;
-use row::Stored;
 use rule::Row;
-use sheet::Answer;
+use sheet::Refusal;
 
 // Room for every answer: the head, and a line for each of 256 rows, have 38,199 bytes at most.
 pub const ANSWER_ROOM: usize = 40960;
 
 // Where a text ends that was written at a place.
-fn end_of(at: usize, t: Answer) -> usize
-    requires { at + length_in t < 18446744073709551616 }
-    ensures { result ≡ at + length_in t }
+fn end_of(at: usize, written: Result<usize, Refusal>) -> usize
+    requires { at + length_in written < 18446744073709551616 }
+    ensures { result ≡ at + length_in written }
 {
-    match t {
-        Answer::Gives(n) => at + n,
-        Answer::Refused(_, _) => at,
-    }
+    at + written.unwrap_or(0)
 }
 
 // The first line of a roll.
@@ -40,7 +35,7 @@ fn put_head(tracks: usize, cells: u64, out: &mut [u8]) -> usize
     end_of(0, t)
 }
 
-// A refusal's line.
+// A refusal's line. It takes the table's number and the place: the text is promised of any two.
 pub fn put_refusal(number: u8, place: usize, out: &mut [u8]) -> usize
     requires { longest_refusal ≤ length out.old }
     ensures { Behind (refused_of number place) 0 out.old result out.new }
@@ -73,11 +68,8 @@ pub fn put_rows(rows: &[u8], n: usize, at: usize, out: &mut [u8]) -> usize
     ensures { Behind (lines_of (rows_in rows.now n)) at out.old result out.new × (result ≤ at + longest_line * n) }
 {
     let mut end = at;
-    let mut k = 0;
-    while k < n {
-        let stored = row::row_at(rows, k);
-        k += 1;
-        let Stored::Found(row) = stored else {
+    for k in 0..n {
+        let Some(row) = row::row_at(rows, k) else {
             continue;
         };
         end = put_row(row, end, out);
@@ -91,12 +83,11 @@ pub fn answer(sheet: &[u8], out: &mut [u8]) -> usize
     ensures { (take result out.new ≡ answer_of (verdict_of sheet.now) (listing (commands_of sheet.now))) × (result ≤ length out.new) }
 {
     let mut rows = [0u8; row::LONGEST_ROLL];
-    let rolled = grid_run::grid_roll_bytes(sheet, 8, &mut rows);
-    match rolled {
-        GridRolled::Rows { rows: n, cells } => {
-            let at = put_head(n, cells, out);
-            put_rows(&rows, n, at, out)
+    match grid_run::grid_roll(sheet, 8, &mut rows) {
+        Ok(roll) => {
+            let at = put_head(roll.rows, roll.cells, out);
+            put_rows(&rows, roll.rows, at, out)
         }
-        GridRolled::Refused(number, place) => put_refusal(number, place, out),
+        Err(refusal) => put_refusal(u8::from(refusal.kind), refusal.place, out),
     }
 }

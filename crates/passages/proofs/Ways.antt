@@ -23,7 +23,7 @@ use Rattle.rule.proofs.Existence.{roll_of_lem, roll_length}
 use Rattle.rule.proofs.RowBytes.{roll_bytes_length}
 use Rattle.rule.proofs.Starts.{one_id}
 use Rattle.rule.proofs.Widths.{roll_fits}
-use Rattle.row.specs.declared.Stored.TheVariants.{Found, Nothing}
+use Rattle.std.specs.Prelude.{Some, None}
 use Rattle.row.specs.Stored.{holds_row, row_from, row_in}
 use Rattle.row.proofs.ReadBack.{row_back}
 use Rattle.records.specs.Records.{Handed}
@@ -31,7 +31,7 @@ use Rattle.plain_run.proofs.Outcome.{tracks_count}
 use Rattle.shapefile.specs.declared.Passage.{Passage}
 use Rattle.passages.specs.Passages.{track_with, passage_of, passages_of}
 use Rattle.passages.specs.InFront.{InFront}
-use Rattle.passages.specs.Placed.{way_of, PlaceOf}
+use Rattle.passages.specs.Placed.{way_of, NoPlace, PlaceOf}
 use Rattle.passages.proofs.OwnTrack.{own_track}
 
 -- not at the first k places, and not at place k
@@ -62,11 +62,11 @@ pub ways-first : {rows : List ℕ} {tracks : List Track} {n : ℕ} {l : List Pas
 ways-first e = record { some = omega arith; long = e; each = λ d i k h. absurd (omega arith) }
 
 -- a row that is found is the one whose bytes stand there
-found_is : (rows : List ℕ) (k : ℕ) {r : Row} → row_in rows k ≡ Found r → read rows k ≡ r
+found_is : (rows : List ℕ) (k : ℕ) {r : Row} → row_in rows k ≡ Some r → read rows k ≡ r
 unfolding row_in
 found_is rows k {r} e = go (ltb k (length rows / row_width)) (holds_row rows (row_width * k)) e
   where
-    go : (a b : Bool) → cond a (cond b (Found (read rows k)) Nothing) Nothing ≡ Found r → read rows k ≡ r
+    go : (a b : Bool) → cond a (cond b (Some (read rows k)) None) None ≡ Some r → read rows k ≡ r
     go true true h = cc
     go true false h = absurd (let z : ◌≡◌ {A = ℕ} 0 1 = cc in omega arith)
     go false b h = absurd (let z : ◌≡◌ {A = ℕ} 0 1 = cc in omega arith)
@@ -99,7 +99,7 @@ module _ {s : Sheet} (p : Handed s) where
     pub room : row_width * n ≤ length rows
     room = let e = ap length f.is ∙ length-append (roll_bytes R) f.rest in omega (arith, roll_bytes_length R, rows_count)
 
-    found : (k : ℕ) → k < n → row_in rows k ≡ Found (get_or R k no_row)
+    found : (k : ℕ) → k < n → row_in rows k ≡ Some (get_or R k no_row)
     found k h =
         let g : k < length R = omega (arith, rows_count) in
         ap (λ (z : List ℕ). row_in z k) f.is ∙ row_back R f.rest k no_row g (roll_fits (handed_in s) p.accepted (get_or R k no_row) (mem_at no_row R k g))
@@ -117,25 +117,21 @@ module _ {s : Sheet} (p : Handed s) where
             let x = pairs-at no_row (λ r q. ¬ (q.id ≡ r.id)) (λ r q x z. x (sym z)) R meets.is_set.distinct i k (omega (arith, rows_count)) (omega (arith, rows_count)) q in
             absurd (x (sym (id_is k g) ∙ sym e ∙ id_is i h))
 
-    module _ {j k : ℕ} (h : j < n) (q : PlaceOf rows n (tip s.tracks j).id k) where
-      -- each track has a row
-      pub has_place : k < n
-      unfolding row_from
-      has_place =
-          let (r, m, e) = meets.is_set.each (tip s.tracks j) (tip_in j h) in
-          let (i, g, x) = at_mem no_row R r m in
-          let b : i < n = omega (arith, rows_count) in
-          go i b (id_is i b ∙ ap (λ (z : Row). z.id) x ∙ e) (ℕ_discrete k n)
-        where
-          go : (i : ℕ) → i < n → (read rows i).id ≡ (tip s.tracks j).id → Dec (k ≡ n) → k < n
-          go i b e (yes x) = absurd (q.none_before i (omega arith) e)
-          go i b e (no x) = omega (arith, q.most)
+    -- each track has a row
+    pub has_place : {j : ℕ} → j < n → ¬ NoPlace rows n (tip s.tracks j).id
+    unfolding row_from
+    has_place {j} h q =
+        let (r, m, e) = meets.is_set.each (tip s.tracks j) (tip_in j h) in
+        let (i, g, x) = at_mem no_row R r m in
+        let b : i < n = omega (arith, rows_count) in
+        q i b (id_is i b ∙ ap (λ (z : Row). z.id) x ∙ e)
 
-      pub row-there : (r : Row) × (row_in rows k ≡ Found r)
-      row-there = (get_or R k no_row, found k has_place)
+    module _ {j k : ℕ} (h : j < n) (q : PlaceOf rows n (tip s.tracks j).id k) where
+      pub row-there : (r : Row) × (row_in rows k ≡ Some r)
+      row-there = (get_or R k no_row, found k q.below)
 
       -- one track more
-      pub ways-more : {l : List Passage} {r : Row} → row_in rows k ≡ Found r → Ways rows s.tracks n l j → Ways rows s.tracks n (set l k (way_of (tip s.tracks j) r)) (j + 1)
+      pub ways-more : {l : List Passage} {r : Row} → row_in rows k ≡ Some r → Ways rows s.tracks n l j → Ways rows s.tracks n (set l k (way_of (tip s.tracks j) r)) (j + 1)
       unfolding row_from
       ways-more {l} {r} e w = record { some = omega arith; long = length-set l k way ∙ w.long; each = λ d i m a b x. here d i m a b x (ℕ_discrete m k) }
         where
@@ -144,15 +140,15 @@ module _ {s : Sheet} (p : Handed s) where
 
           -- at another place
           other : (d : Passage) (i m : ℕ) → ¬ (m ≡ k) → i < j + 1 → m < n → (read rows m).id ≡ (tip s.tracks i).id → Dec (i ≡ j) → get_or l m d ≡ way_of (tip s.tracks i) (read rows m)
-          other d i m c a b x (yes z) = absurd (c (one_row m k b has_place (x ∙ ap (λ (y : ℕ). (tip s.tracks y).id) z ∙ sym (q.there has_place))))
+          other d i m c a b x (yes z) = absurd (c (one_row m k b q.below (x ∙ ap (λ (y : ℕ). (tip s.tracks y).id) z ∙ sym q.there)))
           other d i m c a b x (no z) = w.each d i m (omega arith) b x
 
           here : (d : Passage) (i m : ℕ) → i < j + 1 → m < n → (read rows m).id ≡ (tip s.tracks i).id → Dec (m ≡ k) → get_or (set l k way) m d ≡ way_of (tip s.tracks i) (read rows m)
           here d i m a b x (yes c) =
-              let z = sym (q.there has_place) ∙ ap (λ (y : ℕ). (read rows y).id) (sym c) ∙ x in
+              let z = sym q.there ∙ ap (λ (y : ℕ). (read rows y).id) (sym c) ∙ x in
               let t = one_id T p.accepted.track_ids (tip s.tracks j) (tip s.tracks i) (tip_in j h) (tip_in i (omega arith)) z in
               ap (λ (y : ℕ). get_or (set l k way) y d) c
-              ∙ get_or-set_same l k way d (omega (arith, w.long, p.tracks_in, has_place))
+              ∙ get_or-set_same l k way d (omega (arith, w.long, p.tracks_in, q.below))
               ∙ ap₂ way_of t (sym (ap (read rows) c ∙ found_is rows k e))
           here d i m a b x (no c) = get_or-set_other l k m way d c ∙ other d i m c a b x (ℕ_discrete i j)
 

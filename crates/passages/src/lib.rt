@@ -1,16 +1,15 @@
 // The ways of a roll's tips (SHEETS 12.5), in roll order: a way starts where its tip's track does and ends where its row does.
 #![tactic(auto)]
 
-ghost use Rattle.std.specs.Prelude.{◌≡◌, ◌*◌, ◌≤◌, length, take};
+ghost use Rattle.std.specs.Prelude.{◌≡◌, ◌+◌, ◌*◌, ◌≤◌, ◌<◌, length, take, MatchOption};
 ghost use Rattle.sheet.specs.HandedIn.{handed_in};
 ghost use Rattle.rule.specs.RowBytes.{row_width};
 ghost use Rattle.rule.specs.Selection.{roll_of};
 ghost use Rattle.records.specs.Records.{Handed};
 ghost use Rattle.passages.specs.Passages.{passages_of};
 ghost use Rattle.passages.specs.InFront.{InFront};
-ghost use Rattle.passages.specs.Placed.{way_of, PlaceOf};
+ghost use Rattle.passages.specs.Placed.{way_of, NoPlace, PlaceOf};
 
-use row::Stored;
 use rule::Row;
 use shapefile::Passage;
 use sheet::{Sheet, Track};
@@ -21,19 +20,16 @@ pub const MOST: usize = 256;
 // 64ths in a unit (SHEETS 5.4).
 const PARTS: u32 = 64;
 
-// The place of the row with an id among the first n, or n.
-fn place_of(rows: &[u8], n: usize, id: u16) -> usize
+// The place of the first row with an id, among the first n.
+fn place_of(rows: &[u8], n: usize, id: u16) -> Option<usize>
     requires { row_width * n ≤ length rows.now }
-    ensures { PlaceOf rows.now n id result }
+    ensures { MatchOption result (NoPlace rows.now n id) (PlaceOf rows.now n id) }
 {
-    let mut k: usize = 0;
-    while k < n {
-        if row::id_from(rows, row::WIDTH * k) == id {
-            return k;
-        }
-        k += 1;
-    }
-    n
+    (0..n).find(
+        |&k|
+            requires { row_width * k + row_width ≤ length rows.now }
+        { row::id_from(rows, row::WIDTH * k) == id },
+    )
 }
 
 // From a track's start, in 64ths, to the end point of its row (SHEETS 12.5).
@@ -61,16 +57,15 @@ pub fn passages_of(sheet: Sheet, rows: &[u8]) -> [Passage; 256]
         u: 0,
         v: 0,
     }; MOST];
-    let mut j: usize = 0;
-    while j < n {
+    for j in 0..n {
         let a = tracks[j];
-        let k = place_of(rows, n, a.id);
-        let stored = row::row_at(rows, k);
-        let Stored::Found(row) = stored else {
+        let Some(k) = place_of(rows, n, a.id) else {
+            return passages;
+        };
+        let Some(row) = row::row_at(rows, k) else {
             return passages;
         };
         passages[k] = way_of(a, row);
-        j += 1;
     }
     passages
 }

@@ -1,7 +1,7 @@
 -- What the code's branches give: `key_entry` and `key_cause` for the key, `reached_track` to `event_cell` for the event.
 use mathlib.Core.Path.{◌≡◌, refl, sym, ap, ap₂, subst, ◌∙◌}
 use mathlib.Core.Bool.{Bool, true, false}
-use Prim.Native.Nat.{ℕ, zero, suc, ◌<◌, ◌≤◌}
+use Prim.Native.Nat.{ℕ, ◌<◌, ◌≤◌}
 use lib.Dec.{eqb}
 use borrow.Author.Tests.{eq-eqb, ne_eqb}
 use native.Mathlib.Omega.{arith}
@@ -49,21 +49,6 @@ module _ (a : Track) (s : ℕ) (k : Cell) (c : Cause) (f : Fine c) {o : Onset} (
       let t = test_of e w in (rw t refl, f.at)
 
 -- ---- the event
-
-module _ (n i : ℕ) where
-  pub reached_track : n ≡ 0 → event.Track i ≡ reached_of n i
-  unfolding reached_of
-  reached_track e = rw e refl
-
-  pub reached_wall : n ≡ 1 → event.Wall i ≡ reached_of n i
-  unfolding reached_of
-  reached_wall e = rw e refl
-
-pub reached_edge : (n i : ℕ) → (n ≡ 0 → ⊥) → (n ≡ 1 → ⊥) → event.Edge ≡ reached_of n i
-unfolding reached_of
-reached_edge zero i h k = absurd (h refl)
-reached_edge (suc zero) i h k = absurd (k refl)
-reached_edge (suc (suc n)) i h k = refl
 
 module _ (a : Track) (s : ℕ) (k : Cell) (c : Cause) (late : ℕ) where
   pub event_reached : {r : Event} → r ≡ reached_of c.class c.id → late ≡ 1 → r ≡ event_of late (next a s k) c

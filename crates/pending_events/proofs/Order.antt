@@ -15,6 +15,8 @@ use Rattle.fraction.specs.Order.{≈ᵗ_of, ≤ᵗ_or_<ᵗ}
 use Rattle.fraction.proofs.TimeOrder.{fraction_lt, fraction_eq}
 use Rattle.sheet.specs.declared.Track.{Track}
 use Rattle.cause.specs.declared.Cause.{Cause}
+use Rattle.cause.specs.declared.Class.{Class}
+use Rattle.cause.specs.declared.Class.TheVariants as class
 use Rattle.cause.specs.Cause.{Fine}
 use Rattle.cells.specs.declared.Cell.{Cell}
 use Rattle.cells.specs.Cut.{Cut, before, past, ◌≤ᶜ◌, ◌<ᶜ◌}
@@ -172,11 +174,11 @@ module _ (a : Track) (s : ℕ) (k : Cell) (c d : Cause) (f : Fine c) (g : Fine d
 
 -- ---- the event that leaves with the key
 
-reached_late : (n i : ℕ) (b : Bool) → late_of (reached_of n i) b ≡ 1
+reached_late : (n : Class) (i : ℕ) (b : Bool) → late_of (reached_of n i) b ≡ 1
 unfolding reached_of
-reached_late zero i b = refl
-reached_late (suc zero) i b = refl
-reached_late (suc (suc n)) i b = refl
+reached_late class.Track i b = refl
+reached_late class.Wall i b = refl
+reached_late class.Edge i b = refl
 
 -- the event is of the kind that its key was ordered by
 pub event_late : (a : Track) (s : ℕ) (k : Cell) (c : Cause) →

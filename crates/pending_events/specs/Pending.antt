@@ -1,8 +1,10 @@
 -- The pending event of a running tip (SHEETS 6.8): the sooner of its next cell entry and its best known cause.
-use Rattle.std.specs.Prelude.{Bool, cond, ℕ, zero, suc, eqb}
+use Rattle.std.specs.Prelude.{Bool, cond, ℕ, eqb}
 use Rattle.fraction.specs.Time.{Time, as_time}
 use Rattle.sheet.specs.declared.Track.{Track}
 use Rattle.cause.specs.declared.Cause.{Cause}
+use Rattle.cause.specs.declared.Class.{Class}
+use Rattle.cause.specs.declared.Class.TheVariants as class
 use Rattle.cells.specs.declared.Cell.{Cell}
 use Rattle.cells.specs.OneCell.{exit}
 use Rattle.cells.specs.Walk.{next}
@@ -37,10 +39,10 @@ pending_key a s k c = cond (enters_first a s k c) (entry_key (onset_of (exit a s
 -- ---- what it is: a cell entered, or what ends the tip
 
 -- by the cause's class
-unfoldable pub reached_of : ℕ → ℕ → Event
-reached_of zero i = event.Track i
-reached_of (suc zero) i = event.Wall i
-reached_of (suc (suc n)) i = event.Edge
+unfoldable pub reached_of : Class → ℕ → Event
+reached_of class.Track i = event.Track i
+reached_of class.Wall i = event.Wall i
+reached_of class.Edge i = event.Edge
 
 -- by the key's `late`, which is 1 where something is reached; k is the next cell
 unfoldable pub event_of : ℕ → Cell → Cause → Event

@@ -7,29 +7,27 @@ ghost use Rattle.cause.specs.Cause.{Fine};
 ghost use Rattle.fraction.specs.Sizes.{Timely};
 ghost use Rattle.pending_events.specs.Pending.{pending_entry, reached_of};
 
-use cause::Cause;
+use cause::{Cause, Class};
 use cell_walk::Onset;
 use cells::Cell;
 use event_queue::{Entry, Event, Key};
 use sheet::Track;
 
 // What a cause of this class and partner is as an event.
-fn reached(class: u64, id: u64) -> Event
-    requires { id ≤ 65535 }
+#[tactic(auto, unfolding(crate::specs::Pending::reached_of))]
+fn reached(class: Class, id: u16) -> Event
     ensures { result ≡ reached_of class id }
 {
-    if class == 0 {
-        return Event::Track(id as u16);
+    match class {
+        Class::Track => Event::Track(id),
+        Class::Wall => Event::Wall(id),
+        Class::Edge => Event::Edge,
     }
-    if class == 1 {
-        return Event::Wall(id as u16);
-    }
-    Event::Edge
 }
 
 // The pending event of tip a, which is in cell k of side s and which c is the first cause known to end.
 pub fn entry_of(a: Track, s: u64, k: Cell, c: Cause) -> Entry
-    requires { TrackOk a × (s ≤ 4096) × (k.column < 32) × (k.row < 32) × Fine c × (c.id ≤ 65535) }
+    requires { TrackOk a × (s ≤ 4096) × (k.column < 32) × (k.row < 32) × Fine c }
     ensures { (result ≡ pending_entry a s k c) × Timely result.key.at }
 {
     let id = a.id as u64;
@@ -40,10 +38,9 @@ pub fn entry_of(a: Track, s: u64, k: Cell, c: Cause) -> Entry
     if cell_walk::prior(when, end) {
         let cell = next.cell;
         let event = Event::Cell(cell.column as u8, cell.row as u8);
-        let late = event_queue::late_of(event, when.late == 1);
-        let entered = when.at;
+        let late = event.late(when.late == 1);
         let key = Key {
-            at: entered,
+            at: when.at,
             late,
             id,
         };

@@ -1,4 +1,2 @@
 pub mod Outcome
-pub mod Prepared
 pub mod TheRoll
-pub mod Verdicts

@@ -1,4 +1,5 @@
 -- The first of the edge and the walls, and then of the tracks. Main theorems: `base_found`, `seen_of`.
+use mathlib.Core.Bool.{Bool}
 use mathlib.Core.List.{List}
 use mathlib.Core.Logic.{inl}
 use Prim.Native.Nat.{ℕ, ◌<◌}
@@ -53,7 +54,7 @@ base_found {S} acc {a} {c} {r} e f =
 
 -- ---- the tracks
 
-module _ (S : Listing) {done : List Row} (i : ℕ) (known : List ℕ) {c r : Cause} (b : Based S (tip_at S i) c) (f : FirstOfTracks S done (tip_at S i) (Flagged known) c r) where
+module _ (S : Listing) {done : List Row} (i : ℕ) (known : List Bool) {c r : Cause} (b : Based S (tip_at S i) c) (f : FirstOfTracks S done (tip_at S i) (Flagged known) c r) where
   pub seen_of : ((j : ℕ) → j < length S.tracks → Flagged known j) → Seen S done i r
   seen_of all = record { foremost = foremost_better f.stands f.first b.foremost; at_tips = λ j h. f.at_tips j h (all j h) }
 

@@ -1,12 +1,14 @@
 -- The tips before the first turn. Main theorems: `begin_next`, `begin_state`.
+use mathlib.Core.Bool.{Bool, true, false}
 use mathlib.Core.List.Memᴰ
 use mathlib.Core.List.{List, [], ◌∷◌, ◌++◌}
 use mathlib.Core.Logic.{◌≢◌}
 use mathlib.Core.Path.{◌≡◌, refl, sym, ap, ◌∙◌, subst}
-use Prim.Native.Nat.{ℕ, zero, suc, ◌+◌, ◌*◌, ◌≤◌, ◌<◌}
+use Prim.Native.Nat.{ℕ, ◌+◌, ◌*◌, ◌≤◌, ◌<◌}
 use native.Mathlib.Omega.{arith}
-use lib.ListN.{length, get_or, replicate, length-replicate, length-append, length-set}
+use lib.ListN.{length, replicate, length-replicate, length-append, length-set}
 use lib.Seq.{length-take-le}
+use Rattle.std.proofs.lemmas.List.{get_or-replicate}
 use Rattle.sheet.specs.Accepted.{Accepted}
 use Rattle.sheet.specs.HandedIn.{handed_in, no_track}
 use Rattle.sheet.specs.Listing.{Listing}
@@ -16,9 +18,9 @@ use Rattle.rule.proofs.Turn.{progress_start}
 use Rattle.rule.specs.RowBytes.{row_width}
 use Rattle.cause.specs.declared.Cause.{Cause}
 use Rattle.cause.specs.Cause.{tip_at}
-use Rattle.number_tables.proofs.Blank.{blank}
-use Rattle.tips.specs.Tips.{LENGTH, Tip, tips_in, tip_in, with_base, with_best}
-use Rattle.tips.proofs.Stored.{tips_long, tip_blank}
+use Rattle.tips.specs.declared.Tip.{Tip}
+use Rattle.tips.specs.Tips.{no_tip, tip_in, with_base, with_best}
+use Rattle.tips.proofs.Blank.{tip_blank}
 use Rattle.tips.proofs.Put.{at_put}
 use Rattle.look.specs.Ends.{Ends}
 use Rattle.look.specs.Tracks.{MayLookOn, LookedAgain}
@@ -26,41 +28,33 @@ use Rattle.plain_turns.specs.State.{AllKnown, Based, Seen, Begun, State}
 use Rattle.plain_turns.proofs.Based.{seen_of}
 
 -- nothing has ended
-ends_none : {S : Listing} {ts : List Tip} → ((k : ℕ) → (tip_in ts k).ended ≡ 0) → Ends S ts []
+ends_none : {S : Listing} {ts : List Tip} → ((k : ℕ) → (tip_in ts k).ended ≡ false) → Ends S ts []
 ends_none z = record { running = λ k l x d m. absurd (Memᴰ.not-nil m); ended = λ k l n. absurd (n (z k)) }
 
 -- ---- at first
 
-ones : (n k : ℕ) → k < n → ◌≡◌ {A = ℕ} (get_or (replicate n 1) k 0) 1
-ones zero k h = absurd (omega arith)
-ones (suc n) zero h = refl
-ones (suc n) (suc k) h = ones n k (omega arith)
+pub all_known : AllKnown (replicate 256 true)
+all_known = record { long = length-replicate 256 true; all = λ j h. get_or-replicate 256 j true false h }
 
-pub all_known : AllKnown (replicate 256 1)
-all_known =
-    record {
-      long = length-replicate {A = ℕ} 256 1;
-      all = λ j h e. let x : ◌≡◌ {A = ℕ} 0 1 = sym e ∙ ones 256 j h in absurd (omega arith);
-    }
-
-pub begin_none : {S : Listing} → Begun S (tips_in (replicate LENGTH 0)) 0
-begin_none =
-    record {
-      long = tips_long (replicate LENGTH 0);
-      none = λ k. ap (λ (t : Tip). t.ended) (tip_blank (replicate LENGTH 0) (blank 0 LENGTH) k);
+pub begin_none : {S : Listing} {ts : List Tip} → ts ≡ replicate 256 no_tip → Begun S ts 0
+begin_none {S} e =
+    subst (λ (ts : List Tip). Begun S ts 0) (sym e)
+    (record {
+      long = length-replicate 256 no_tip;
+      none = λ k. ap (λ (t : Tip). t.ended) (tip_blank 256 k);
       based = λ k l. absurd (omega arith);
       seen = λ k l. absurd (omega arith);
-    }
+    })
 
--- the rows of a sheet that was filed have room where its tracks' have
-pub room_for : {s : Sheet} → Handed s → {S : Listing} → S ≡ handed_in s → {n : ℕ} → row_width * s.ntracks ≤ n → row_width * length S.tracks ≤ n
-room_for {s} h {S} e {n} r =
+-- the rows of an accepted sheet have room where its tracks' have
+pub room_for : {s : Sheet} → Handed s → {n : ℕ} → row_width * s.ntracks ≤ n → row_width * length (handed_in s).tracks ≤ n
+room_for {s} h r =
     let x : length (handed_in s).tracks ≡ s.ntracks = length-take-le s.ntracks (s.tracks ++ (no_track ∷ [])) (simp length-append (omega (arith, h.tracks_long, h.tracks_in))) in
-    subst (λ (z : Listing). row_width * length z.tracks ≤ n) (sym e) (omega (arith, x, r))
+    omega (arith, x, r)
 
 -- ---- one tip more
 
-module _ {S : Listing} (acc : Accepted S) {known : List ℕ} (all : AllKnown known) {ts : List Tip} {i : ℕ} (b : Begun S ts i) (l : i < length S.tracks) {c : Cause} (w : Based S (tip_at S i) c) {t : List Tip} (s : t ≡ with_base ts i c) where
+module _ {S : Listing} (acc : Accepted S) {known : List Bool} (all : AllKnown known) {ts : List Tip} {i : ℕ} (b : Begun S ts i) (l : i < length S.tracks) {c : Cause} (w : Based S (tip_at S i) c) {t : List Tip} (s : t ≡ with_base ts i c) where
   abbrev based_tip : Tip
   based_tip = record { best = (tip_in ts i).best; base = c; ended = (tip_in ts i).ended; cell = (tip_in ts i).cell }
 
@@ -74,8 +68,8 @@ module _ {S : Listing} (acc : Accepted S) {known : List ℕ} (all : AllKnown kno
   pub t_long : length t ≡ 256
   t_long = ap length s ∙ length-set ts i based_tip ∙ b.long
 
-  t_none : (k : ℕ) → (tip_in t k).ended ≡ 0
-  t_none = subst (λ (z : List Tip). (k : ℕ) → (tip_in z k).ended ≡ 0) (sym s) (at_put (λ (k : ℕ) (x : Tip). x.ended ≡ 0) ts i based_tip room (b.none i) (λ k n. b.none k))
+  t_none : (k : ℕ) → (tip_in t k).ended ≡ false
+  t_none = subst (λ (z : List Tip). (k : ℕ) → (tip_in z k).ended ≡ false) (sym s) (at_put (λ (k : ℕ) (x : Tip). x.ended ≡ false) ts i based_tip room (b.none i) (λ k n. b.none k))
 
   t_based : (k : ℕ) → k < i + 1 → Based S (tip_at S k) (tip_in t k).base
   t_based =
@@ -103,7 +97,7 @@ module _ {S : Listing} (acc : Accepted S) {known : List ℕ} (all : AllKnown kno
       begun =
           record {
             long = length-set t i _ ∙ t_long;
-            none = at_put (λ (k : ℕ) (x : Tip). x.ended ≡ 0) t i _ t_room (t_none i) (λ k n. t_none k);
+            none = at_put (λ (k : ℕ) (x : Tip). x.ended ≡ false) t i _ t_room (t_none i) (λ k n. t_none k);
             based = at_put (λ (k : ℕ) (x : Tip). k < i + 1 → Based S (tip_at S k) x.base) t i _ t_room (t_based i) (λ k n. t_based k);
             seen = at_put (λ (k : ℕ) (x : Tip). k < i + 1 → Seen S [] k x.best) t i _ t_room (λ h. seen_here) (λ k n h. t_seen k (less k n h));
           }

@@ -6,12 +6,9 @@ use Prim.Native.Nat.{ℕ, ◌+◌, ◌<◌}
 use native.Mathlib.Omega.{arith}
 use lib.ListN.{length}
 use borrow.Author.Count.{below_more}
-use Rattle.fraction.specs.declared.Fraction.{Fraction}
 use Rattle.fraction.proofs.TimeOrder.{≈ᵗ_refl, ≈ᵗ_trans, ≈ᵗ→≤ᵗ, <ᵗ_trans, <ᵗ_≤ᵗ_trans, ≤ᵗ_<ᵗ_trans}
 use Rattle.sheet.specs.Listing.{Listing}
-use Rattle.sheet.specs.declared.Track.{Track}
-use Rattle.cause.specs.Cause.{tip_at}
-use Rattle.tips.specs.Tips.{Tip, tip_in}
+use Rattle.tips.specs.declared.Tip.{Tip}
 use Rattle.plain_turns.specs.declared.Key.{Key}
 use Rattle.plain_turns.specs.Key.{Ahead, running, earlier, together, Soonest, key_in, Picked}
 
@@ -35,8 +32,10 @@ pub record Best (S : Listing) (ts : List Tip) (i : ℕ) (b : Key) : Type 0 where
   pub picked : Picked S ts i b.tip
 
 module _ (S : Listing) (ts : List Tip) where
-  pub pick_first : 0 < length S.tracks → {b : Key} → b ≡ key_in S ts 0 → Best S ts 0 b
-  pick_first h e = subst (Best S ts 0) (sym e) (record { is = refl; picked = record { place = h; ahead = λ j l. absurd (omega arith) } })
+  pub pick_first : 0 < length S.tracks → {b : Key} → b ≡ key_in S ts 0 → Best S ts 1 b
+  pick_first h e =
+      subst (Best S ts 1) (sym e)
+      (record { is = refl; picked = record { place = h; ahead = λ j l. let z : 0 ≡ j = omega arith in subst (λ (k : ℕ). Ahead (key_in S ts 0) (key_in S ts k)) z (ahead_self (key_in S ts 0)) } })
 
   pub pick_next : {b k r : Key} (i : ℕ) → i < length S.tracks → k ≡ key_in S ts i → Best S ts i b → Soonest b k r → Best S ts (i + 1) r
   pick_next {b} {k} {r} i h is p x = go (subst (λ (z : Key). Soonest b z r) is x)
@@ -57,7 +56,3 @@ module _ (S : Listing) (ts : List Tip) where
               ahead = below_more (λ (j : ℕ). Ahead (key_in S ts i) (key_in S ts j)) i (λ j l. ahead_trans (subst (λ (z : Key). Ahead (key_in S ts i) z) p.is q) (p.picked.ahead j l)) (ahead_self (key_in S ts i));
             };
           })
-
--- what was read is the key
-pub key_read : (S : Listing) (ts : List Tip) (i : ℕ) {n : ℕ} {t : Fraction} {a : Track} → n ≡ (tip_in ts i).ended → t ≡ (tip_in ts i).best.at → a ≡ tip_at S i → ◌≡◌ {A = Key} (record { ended = n; at = t; id = a.id; tip = i }) (key_in S ts i)
-key_read S ts i p q r = λ j. record { ended = p j; at = q j; id = (r j).id; tip = i }

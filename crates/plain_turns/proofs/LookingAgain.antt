@@ -16,7 +16,8 @@ use Rattle.rule.specs.Meanwhile.{Fresh, Live}
 use Rattle.cause.specs.declared.Cause.{Cause}
 use Rattle.cause.specs.Cause.{tip_at, cand_of, Fine, Stands}
 use Rattle.cause.specs.Looked.{Gone, FirstOfTracks}
-use Rattle.tips.specs.Tips.{Tip, tip_in, with_best}
+use Rattle.tips.specs.declared.Tip.{Tip}
+use Rattle.tips.specs.Tips.{tip_in, with_best}
 use Rattle.tips.proofs.Put.{at_put}
 use Rattle.look.specs.Ends.{Ends}
 use Rattle.look.specs.Counts.{MayTell, stale, Stale}
@@ -50,9 +51,9 @@ module _ {S : Listing} {ts : List Tip} (h : Held S ts) where
 pub refresh_start : {S : Listing} {ts : List Tip} → Held S ts → Refreshed S ts ts 0
 refresh_start h = record { held = h; kept = λ done k. k; live = λ done k j l. absurd (omega arith) }
 
-module _ {S : Listing} (acc : Accepted S) {known : List ℕ} (all : AllKnown known) {old ts : List Tip} {i : ℕ} (f : Refreshed S old ts i) (l : i < length S.tracks) where
+module _ {S : Listing} (acc : Accepted S) {known : List Bool} (all : AllKnown known) {old ts : List Tip} {i : ℕ} (f : Refreshed S old ts i) (l : i < length S.tracks) where
   LiveAt : List Tip → List Row → ℕ → Type 0
-  LiveAt t done k = (tip_in t k).ended ≡ 0 → Live done (cand_of S (tip_in t k).best).u (cand_of S (tip_in t k).best).why
+  LiveAt t done k = (tip_in t k).ended ≡ false → Live done (cand_of S (tip_in t k).best).u (cand_of S (tip_in t k).best).why
 
   told : {r : Bool} → r ≡ stale ts i → Stale ts i r
   told e = subst (Stale ts i) (sym e) (stale_means (held_tell f.held i l acc))
@@ -67,7 +68,7 @@ module _ {S : Listing} (acc : Accepted S) {known : List ℕ} (all : AllKnown kno
             (λ z. counts_live S acc ts done (f.kept done k).ends (tip_at S i) (mem_at no_track S.tracks i l) (f.held.stands i l z) ((told x).no_counts e z));
       }
 
-  module _ (x : (tip_in ts i).ended ≡ 0) (c : Cause) (o : TracksLooked S i ts known (tip_in ts i).base c) where
+  module _ (x : (tip_in ts i).ended ≡ false) (c : Cause) (o : TracksLooked S i ts known (tip_in ts i).base c) where
     abbrev new : Tip
     new = record { best = c; base = (tip_in ts i).base; ended = (tip_in ts i).ended; cell = (tip_in ts i).cell }
 
@@ -86,8 +87,8 @@ module _ {S : Listing} (acc : Accepted S) {known : List ℕ} (all : AllKnown kno
     ends-new : (done : List Row) → Ends S ts done → Ends S next done
     ends-new done e =
         record {
-          running = at_put (λ (j : ℕ) (t : Tip). j < length S.tracks → t.ended ≡ 0 → Fresh done (tip_at S j)) ts i new room (e.running i) (λ j n. e.running j);
-          ended = at_put (λ (j : ℕ) (t : Tip). j < length S.tracks → (t.ended ≡ 0 → ⊥) → Gone done (tip_at S j) t.best.at) ts i new room (λ m n. absurd (n x)) (λ j n. e.ended j);
+          running = at_put (λ (j : ℕ) (t : Tip). j < length S.tracks → t.ended ≡ false → Fresh done (tip_at S j)) ts i new room (e.running i) (λ j n. e.running j);
+          ended = at_put (λ (j : ℕ) (t : Tip). j < length S.tracks → (t.ended ≡ false → ⊥) → Gone done (tip_at S j) t.best.at) ts i new room (λ m n. absurd (n x)) (λ j n. e.ended j);
         }
 
     held_new : Held S next
@@ -96,7 +97,7 @@ module _ {S : Listing} (acc : Accepted S) {known : List ℕ} (all : AllKnown kno
         record {
           long = length-set ts i new ∙ h.long;
           fine = at_put (λ (k : ℕ) (t : Tip). k < length S.tracks → Fine t.best) ts i new room (λ m. o.fine) (λ k n. h.fine k);
-          stands = at_put (λ (k : ℕ) (t : Tip). k < length S.tracks → t.ended ≡ 0 → Stands S (tip_at S k) t.best) ts i new room (λ m z. (o.looked h.some h.ends).stands) (λ k n. h.stands k);
+          stands = at_put (λ (k : ℕ) (t : Tip). k < length S.tracks → t.ended ≡ false → Stands S (tip_at S k) t.best) ts i new room (λ m z. (o.looked h.some h.ends).stands) (λ k n. h.stands k);
           based = at_put (λ (k : ℕ) (t : Tip). k < length S.tracks → Based S (tip_at S k) t.base) ts i new room (h.based i) (λ k n. h.based k);
           some = h.some;
           ends = ends-new h.some h.ends;
@@ -113,12 +114,12 @@ module _ {S : Listing} (acc : Accepted S) {known : List ℕ} (all : AllKnown kno
       kept_new =
           record {
             ends = ends-new done now.ends;
-            seen = at_put (λ (j : ℕ) (t : Tip). j < length S.tracks → t.ended ≡ 0 → Seen S done j t.best) ts i new room (λ m z. seen_of S i known base first flagged) (λ j n. now.seen j);
+            seen = at_put (λ (j : ℕ) (t : Tip). j < length S.tracks → t.ended ≡ false → Seen S done j t.best) ts i new room (λ m z. seen_of S i known base first flagged) (λ j n. now.seen j);
           }
 
       live_new : LiveBelow S next done (i + 1)
       live_new =
-          at_put (λ (j : ℕ) (t : Tip). j < i + 1 → t.ended ≡ 0 → Live done (cand_of S t.best).u (cand_of S t.best).why) ts i new room
+          at_put (λ (j : ℕ) (t : Tip). j < i + 1 → t.ended ≡ false → Live done (cand_of S t.best).u (cand_of S t.best).why) ts i new room
           (λ m z. live_of S i known base first) (λ j n m. f.live done k j (less j n m))
         where
           less : (j : ℕ) → j ≢ i → j < i + 1 → j < i

@@ -1,4 +1,5 @@
 -- The turn of the plain run. Main theorems: `turn_end`, `turn-row`, `turn_state`.
+use mathlib.Core.Bool.{Bool, true, false, cond, true≢false}
 use mathlib.Core.List.{List, [], ◌∷◌, ◌++◌}
 use mathlib.Core.Logic.{◌⊎◌, inl, inr}
 use mathlib.Core.Path.{◌≡◌, refl, sym, ap, ◌∙◌, subst}
@@ -25,20 +26,29 @@ use Rattle.rule.proofs.OnSheet.{rim_inside, formal_opened}
 use Rattle.rule.proofs.Places.{SeenAt, turn_at}
 use Rattle.rule.specs.Meanwhile.{Fresh, Progress}
 use Rattle.rule.proofs.Turn.{progress_more, beats_step}
-use Rattle.row.specs.Written.{Written}
 use Rattle.cause.specs.declared.Cause.{Cause}
 use Rattle.cause.specs.Cause.{tip_at, cand_of, Fine, Stands}
 use Rattle.cause.specs.Offer.{Closed}
-use Rattle.tips.specs.Tips.{Tip, tip_in}
+use Rattle.tips.specs.declared.Tip.{Tip}
+use Rattle.tips.specs.Tips.{tip_in}
 use Rattle.tips.proofs.Put.{at_put}
 use Rattle.ending.specs.Ended.{EndingOf, next_row}
 use Rattle.ending.specs.Finished.{MayEnd, finish, Finished}
 use Rattle.ending.proofs.Ended.{row_next, out_next, progress_next, closed-next}
 use Rattle.ending.proofs.Endings.{row_is}
-use Rattle.ending.proofs.Rolling.{written_next}
 use Rattle.ending.proofs.Ends.{runs_on, over, over_fine, ends_next}
 use Rattle.plain_turns.specs.Key.{Ahead, running, earlier, together, key_in, Picked}
 use Rattle.plain_turns.specs.State.{Based, Seen, Kept, Refreshed, State}
+
+-- the flags of two keys: none is below that of a tip that runs, and a tip with its flag runs too
+none_below : {n : ℕ} (b : Bool) → b ≡ false → n < cond b 1 0 → ⊥
+none_below true e h = true≢false e
+none_below false e h = absurd (omega arith)
+
+as_it : (a b : Bool) → ◌≡◌ {A = ℕ} (cond a 1 0) (cond b 1 0) → b ≡ false → a ≡ false
+as_it false b e f = refl
+as_it true true e f = f
+as_it true false e f = absurd (omega arith)
 
 module _ {S : Listing} (acc : Accepted S) {ts new : List Tip} {k i : ℕ} (st : State S k ts) (f : Refreshed S ts new (length S.tracks)) (l : k < length S.tracks) (p : Picked S new (length S.tracks) i) where
   abbrev done : List Row
@@ -54,15 +64,15 @@ module _ {S : Listing} (acc : Accepted S) {ts new : List Tip} {k i : ℕ} (st : 
   on j h = mem_at no_track S.tracks j h
 
   -- a tip that runs is not ahead of the one picked
-  behind : (j : ℕ) → j < length S.tracks → (tip_in new j).ended ≡ 0 → ((tip_in new i).ended ≡ 0) × (((cand i).u <ᵗ (cand j).u) ⊎ (((cand i).u ≈ᵗ (cand j).u) × ((tip_at S i).id ≤ (tip_at S j).id)))
+  behind : (j : ℕ) → j < length S.tracks → (tip_in new j).ended ≡ false → ((tip_in new i).ended ≡ false) × (((cand i).u <ᵗ (cand j).u) ⊎ (((cand i).u ≈ᵗ (cand j).u) × ((tip_at S i).id ≤ (tip_at S j).id)))
   behind j h x = go (p.ahead j h)
     where
-      go : Ahead (key_in S new i) (key_in S new j) → ((tip_in new i).ended ≡ 0) × (((cand i).u <ᵗ (cand j).u) ⊎ (((cand i).u ≈ᵗ (cand j).u) × ((tip_at S i).id ≤ (tip_at S j).id)))
-      go (running y) = absurd (omega arith)
-      go (earlier e y) = (e ∙ x, inl y)
-      go (together e y z) = (e ∙ x, inr (y, z))
+      go : Ahead (key_in S new i) (key_in S new j) → ((tip_in new i).ended ≡ false) × (((cand i).u <ᵗ (cand j).u) ⊎ (((cand i).u ≈ᵗ (cand j).u) × ((tip_at S i).id ≤ (tip_at S j).id)))
+      go (running y) = absurd (none_below (tip_in new j).ended x y)
+      go (earlier e y) = (as_it (tip_in new i).ended (tip_in new j).ended e x, inl y)
+      go (together e y z) = (as_it (tip_in new i).ended (tip_in new j).ended e x, inr (y, z))
 
-  runs : (tip_in new i).ended ≡ 0
+  runs : (tip_in new i).ended ≡ false
   runs =
       let (a, r) = progress_more acc st.progress (omega (arith, st.out)) in
       let (j, h, e) = at_mem no_track S.tracks a r.on_sheet in
@@ -101,8 +111,8 @@ module _ {S : Listing} (acc : Accepted S) {ts new : List Tip} {k i : ℕ} (st : 
 
   -- ---- the row
 
-  pub turn-named : {c : Cause} → c ≡ (tip_in new i).best → Fine c × (c.id ≤ 65535)
-  turn-named e = subst (λ (z : Cause). Fine z × (z.id ≤ 65535)) (sym e) (stands.fine, stands.id_in)
+  pub turn-named : {c : Cause} → c ≡ (tip_in new i).best → Fine c
+  turn-named e = subst Fine (sym e) stands.fine
 
   pub turn_end : MayEnd S i k new
   turn_end =
@@ -111,7 +121,6 @@ module _ {S : Listing} (acc : Accepted S) {ts new : List Tip} {k i : ℕ} (st : 
         endable = record {
           ok = acc.tracks_ok (tip_at S i) (on i p.place);
           fine = stands.fine;
-          id_in = stands.id_in;
           inside = rim_inside acc (on i p.place) (cand i).u (formal_opened acc (on i p.place) (cand i).why stands.formal) (below_le (kept.seen i p.place runs).foremost.at_rim);
         };
         more = l;
@@ -140,7 +149,7 @@ module _ {S : Listing} (acc : Accepted S) {ts new : List Tip} {k i : ℕ} (st : 
               held = record {
                 long = length-set new i (over (tip_in new i)) ∙ f.held.long;
                 fine = at_put (λ (j : ℕ) (t : Tip). j < length S.tracks → Fine t.best) new i (over (tip_in new i)) room (λ h. over_fine (tip_in new i) (f.held.fine i h)) (λ j n. f.held.fine j);
-                stands = at_put (λ (j : ℕ) (t : Tip). j < length S.tracks → t.ended ≡ 0 → Stands S (tip_at S j) t.best) new i (over (tip_in new i)) room (λ h z. absurd (omega (arith, z))) (λ j n. f.held.stands j);
+                stands = at_put (λ (j : ℕ) (t : Tip). j < length S.tracks → t.ended ≡ false → Stands S (tip_at S j) t.best) new i (over (tip_in new i)) room (λ h z. absurd (true≢false z)) (λ j n. f.held.stands j);
                 based = at_put (λ (j : ℕ) (t : Tip). j < length S.tracks → Based S (tip_at S j) t.base) new i (over (tip_in new i)) room (f.held.based i) (λ j n. f.held.based j);
                 some = row ∷ done;
                 ends = e;
@@ -150,15 +159,6 @@ module _ {S : Listing} (acc : Accepted S) {ts new : List Tip} {k i : ℕ} (st : 
               progress = progress_next acc st.out progress;
               kept = record {
                 ends = e;
-                seen = at_put (λ (j : ℕ) (t : Tip). j < length S.tracks → t.ended ≡ 0 → Seen S (row ∷ done) j t.best) new i (over (tip_in new i)) room (λ h z. absurd (omega (arith, z))) (λ j n h z. step j h (kept.seen j h z));
+                seen = at_put (λ (j : ℕ) (t : Tip). j < length S.tracks → t.ended ≡ false → Seen S (row ∷ done) j t.best) new i (over (tip_in new i)) room (λ h z. absurd (true≢false z)) (λ j n h z. step j h (kept.seen j h z));
               };
             }
-
-pub state_as : {S : Listing} {k m : ℕ} {ts : List Tip} → m ≡ k → State S k ts → State S m ts
-state_as {S} {ts = ts} e s = subst (λ (z : ℕ). State S z ts) (sym e) s
-
--- the rows that are written, with one more
-pub rows_then :
-    (S : Listing) (k : ℕ) {m : ℕ} {ts ts' : List Tip} {before after more : List ℕ} → State S k ts → State S (k + 1) ts' → m ≡ k + 1 → row_width * k + row_width ≤ length before
-    → more ≡ sets after (row_width * k) (row_bytes (next_row S k)) → Written (take k (roll_of S)) before after → Written (take m (roll_of S)) before more
-rows_then S k {before = before} {more = more} s t e h x w = subst (λ (z : ℕ). Written (take z (roll_of S)) before more) (sym e) (written_next S k s.out t.out h x w)

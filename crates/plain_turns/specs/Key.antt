@@ -1,10 +1,11 @@
 -- Which tip ends next: roll order, by time and then by id (SHEETS 5.5), over the tips that still run.
-use Rattle.std.specs.Prelude.{◌≡◌, ◌⊎◌, List, ℕ, ◌≤◌, ◌<◌, length}
+use Rattle.std.specs.Prelude.{◌≡◌, ◌⊎◌, cond, List, ℕ, ◌≤◌, ◌<◌, length}
 use Rattle.fraction.specs.Time.{◌<ᵗ◌, ◌≈ᵗ◌, as_time}
 use Rattle.fraction.specs.Sizes.{Timely}
 use Rattle.sheet.specs.Listing.{Listing}
 use Rattle.cause.specs.Cause.{tip_at}
-use Rattle.tips.specs.Tips.{Tip, tip_in}
+use Rattle.tips.specs.declared.Tip.{Tip}
+use Rattle.tips.specs.Tips.{tip_in}
 use Rattle.plain_turns.specs.declared.Key.{Key}
 
 -- a is not behind b
@@ -19,7 +20,7 @@ Soonest a b r = ((r ≡ a) × Ahead a b) ⊎ ((r ≡ b) × Ahead b a)
 
 -- the key of the tip at i
 abbrev pub key_in : Listing → List Tip → ℕ → Key
-key_in S ts i = record { ended = (tip_in ts i).ended; at = (tip_in ts i).best.at; id = (tip_at S i).id; tip = i }
+key_in S ts i = record { ended = cond (tip_in ts i).ended 1 0; at = (tip_in ts i).best.at; id = (tip_at S i).id; tip = i }
 
 -- there is a tip, and each has a time
 pub record MayPick (S : Listing) (ts : List Tip) : Type 0 where

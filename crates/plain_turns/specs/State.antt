@@ -1,5 +1,5 @@
 -- What the tips of the plain run stand for between two turns.
-use Rattle.std.specs.Prelude.{◌≡◌, ◌≢◌, List, [], ℕ, ◌<◌, length, take}
+use Rattle.std.specs.Prelude.{Bool, ◌≡◌, ◌≢◌, List, [], ℕ, ◌<◌, length, take, false}
 use Rattle.fraction.specs.Time.{Time}
 use Rattle.sheet.specs.declared.Track.{Track}
 use Rattle.sheet.specs.Listing.{Listing}
@@ -11,13 +11,14 @@ use Rattle.rule.specs.Selection.{roll_of}
 use Rattle.rule.specs.WallTime.{wall_time}
 use Rattle.rule.specs.Meanwhile.{Beats, Live, Progress}
 use Rattle.cause.specs.declared.Cause.{Cause}
-use Rattle.cause.specs.Cause.{tip_at, wall_at, cand_of, Fine, Stands}
-use Rattle.tips.specs.Tips.{Tip, tip_in}
+use Rattle.cause.specs.Cause.{rank, tip_at, wall_at, cand_of, Fine, Stands}
+use Rattle.tips.specs.declared.Tip.{Tip}
+use Rattle.tips.specs.Tips.{tip_in}
 use Rattle.look.specs.Ends.{Ends}
 use Rattle.look.specs.Tracks.{Flagged}
 
 -- every tip has a flag: all are looked at
-pub record AllKnown (known : List ℕ) : Type 0 where
+pub record AllKnown (known : List Bool) : Type 0 where
   pub long : length known ≡ 256
   pub all : (j : ℕ) → j < 256 → Flagged known j
 
@@ -32,7 +33,7 @@ pub record Foremost (S : Listing) (a : Track) (c : Cause) : Type 0 where
 -- and is one of them
 pub record Based (S : Listing) (a : Track) (c : Cause) : Type 0 where
   pub foremost : Foremost S a c
-  pub no_track : 0 < c.class
+  pub no_track : 0 < rank c.class
 
 -- ---- the tips, whatever has ended
 
@@ -40,7 +41,7 @@ pub record Based (S : Listing) (a : Track) (c : Cause) : Type 0 where
 pub record Held (S : Listing) (ts : List Tip) : Type 0 where
   pub long : length ts ≡ 256
   pub fine : (k : ℕ) → k < length S.tracks → Fine (tip_in ts k).best
-  pub stands : (k : ℕ) → k < length S.tracks → (tip_in ts k).ended ≡ 0 → Stands S (tip_at S k) (tip_in ts k).best
+  pub stands : (k : ℕ) → k < length S.tracks → (tip_in ts k).ended ≡ false → Stands S (tip_at S k) (tip_in ts k).best
   pub based : (k : ℕ) → k < length S.tracks → Based S (tip_at S k) (tip_in ts k).base
   pub some : List Row
   pub ends : Ends S ts some
@@ -54,11 +55,11 @@ pub record Seen (S : Listing) (done : List Row) (k : ℕ) (c : Cause) : Type 0 w
 
 pub record Kept (S : Listing) (ts : List Tip) (done : List Row) : Type 0 where
   pub ends : Ends S ts done
-  pub seen : (k : ℕ) → k < length S.tracks → (tip_in ts k).ended ≡ 0 → Seen S done k (tip_in ts k).best
+  pub seen : (k : ℕ) → k < length S.tracks → (tip_in ts k).ended ≡ false → Seen S done k (tip_in ts k).best
 
 -- the causes of the first n that run count
 abbrev pub LiveBelow : Listing → List Tip → List Row → ℕ → Type 0
-LiveBelow S ts done n = (k : ℕ) → k < n → (tip_in ts k).ended ≡ 0 → Live done (cand_of S (tip_in ts k).best).u (cand_of S (tip_in ts k).best).why
+LiveBelow S ts done n = (k : ℕ) → k < n → (tip_in ts k).ended ≡ false → Live done (cand_of S (tip_in ts k).best).u (cand_of S (tip_in ts k).best).why
 
 -- of the first n tips, those that run have a cause that counts
 pub record Refreshed (S : Listing) (ts ts' : List Tip) (n : ℕ) : Type 0 where
@@ -69,7 +70,7 @@ pub record Refreshed (S : Listing) (ts ts' : List Tip) (n : ℕ) : Type 0 where
 -- of the first n tips all has been looked at, and none has ended
 pub record Begun (S : Listing) (ts : List Tip) (n : ℕ) : Type 0 where
   pub long : length ts ≡ 256
-  pub none : (k : ℕ) → (tip_in ts k).ended ≡ 0
+  pub none : (k : ℕ) → (tip_in ts k).ended ≡ false
   pub based : (k : ℕ) → k < n → Based S (tip_at S k) (tip_in ts k).base
   pub seen : (k : ℕ) → k < n → Seen S [] k (tip_in ts k).best
 

@@ -7,6 +7,7 @@ use Prim.Native.Nat.{ℕ, suc, pred, ◌+◌, ◌*◌, ◌≤◌, ◌<◌}
 use native.Mathlib.Omega.{arith}
 use lib.ListN.{length, take, length-append}
 use lib.Seq.{take-append_seam}
+use Rattle.std.specs.Prelude.{Result, Ok, Err}
 use Rattle.fraction.specs.Lowest.{Lowest}
 use Rattle.fraction.specs.Time.{◌≈ᵗ◌}
 use Rattle.fraction.proofs.LowestTerms.{lowest_unique}
@@ -21,7 +22,7 @@ use Rattle.sheet.specs.Format.{AllFit, encode_all, width}
 use Rattle.sheet.specs.HandedIn.{handed_in, check_of, sheet_of}
 use Rattle.sheet.specs.Listing.{Listing, listing, tracks_of, walls_of, Reordered}
 use Rattle.sheet.specs.Ordered.{ordered, entry, commands_in, ordered_form}
-use Rattle.sheet.specs.Returned.{Returned, accepted, gives}
+use Rattle.sheet.specs.Returned.{accepted, gives, refused, number_of}
 use Rattle.sheet.specs.Scan.{verdict_of, commands_of}
 use Rattle.sheet.proofs.Decoded.{commands_fit, accepted_bytes}
 use Rattle.sheet.proofs.Format.{encode-length}
@@ -29,9 +30,8 @@ use Rattle.sheet.proofs.Lent.{said_given, put}
 use Rattle.sheet.proofs.Order.{reordered_back, accepted_reordered}
 use Rattle.sheet.proofs.RoundTrip.{accepted_records, ordered_same, handed_back, same_sheet}
 use Rattle.sheet_encoding.proofs.Forms.{entry-most, ordered-length}
-use Rattle.sheet_reader.specs.declared.Reading.{Reading}
-use Rattle.sheet_reader.specs.Reading.{if_accepted, ReadFrom}
-use Rattle.sheet.specs.declared.Answer.{Answer}
+use Rattle.sheet_reader.specs.Reading.{ReadFrom}
+use Rattle.sheet.specs.declared.Refusal.{Refusal}
 use Rattle.sheet.specs.Answer.{answered}
 use Rattle.sheet_writer.specs.Written.{form_of}
 use Rattle.rule.specs.declared.Row.{Row}
@@ -76,12 +76,17 @@ listed-size S = omega (arith, tracks-size S.tracks (map AddWall S.walls), walls_
 -- ---- one reading, one writing
 
 -- what a reading of an accepted sheet has
-read_as : (s : List ℕ) (T : Listing) → verdict_of s ≡ accepted → listing (commands_of s) ≡ T → (q : Reading) → ReadFrom s q → q.sheet ≡ sheet_of T
-read_as s T e l q h = h.records ∙ ap (λ (v : Returned). sheet_of (if_accepted v (listing (commands_of s)))) e ∙ ap sheet_of l
+read_as : (s : List ℕ) (T : Listing) → listing (commands_of s) ≡ T → {read : Sheet} → ReadFrom s (Ok read) → read ≡ sheet_of T
+read_as s T l h = h.1 ∙ ap sheet_of l
+
+-- and it has a sheet
+is_read : (s : List ℕ) → verdict_of s ≡ accepted → (q : Result Sheet Refusal) → ReadFrom s q → (read : Sheet) × (q ≡ Ok read)
+is_read s e (Ok read) h = (read, refl)
+is_read s e (Err r) h = absurd (let f : refused (number_of r.kind) r.place ≡ accepted = sym h ∙ e in let z : ◌≡◌ {A = ℕ} 0 1 = cc in omega arith)
 
 -- what a writing of it leaves
 wrote :
-    (T : Listing) → Accepted T → (sheet : Sheet) → sheet ≡ sheet_of T → {before exit : List ℕ} {w : Answer} → Writes sheet before exit w → length (ordered_form T) ≤ length before
+    (T : Listing) → Accepted T → (sheet : Sheet) → sheet ≡ sheet_of T → {before exit : List ℕ} {w : Result ℕ Refusal} → Writes sheet before exit w → length (ordered_form T) ≤ length before
     → (answered w ≡ gives (length (ordered_form T))) × (take (length (ordered_form T)) exit ≡ ordered_form T)
 wrote T acc sheet e {before} {exit} {w} h room =
     let g : form_of sheet ≡ ordered_form T = ap form_of e ∙ ap ordered_form (handed_back T) in
@@ -110,35 +115,35 @@ module _ (s : List ℕ) (b : AllBytes s) (e : verdict_of s ≡ accepted) where
   no_longer = omega (arith, ordered-length S, listed-size S, size (commands_of s) (commands_fit s b), ap length (accepted_bytes s b e))
 
   -- of what was read once, written, and read again
-  module _ (r : Reading) (h : ReadFrom s r) where
-    first : r.sheet ≡ sheet_of S
-    first = read_as s S e refl r h
+  module _ (sheet : Sheet) (h : ReadFrom s (Ok sheet)) where
+    first : sheet ≡ sheet_of S
+    first = read_as s S refl h
 
-    once : {before exit : List ℕ} {w : Answer} → Writes r.sheet before exit w → length s ≤ length before → (answered w ≡ gives (length (ordered_form S))) × (take (length (ordered_form S)) exit ≡ ordered_form S)
-    once c k = wrote S acc r.sheet first c (omega (arith, no_longer))
+    once : {before exit : List ℕ} {w : Result ℕ Refusal} → Writes sheet before exit w → length s ≤ length before → (answered w ≡ gives (length (ordered_form S))) × (take (length (ordered_form S)) exit ≡ ordered_form S)
+    once c k = wrote S acc sheet first c (omega (arith, no_longer))
 
-    module _ (q : Reading) (k : ReadFrom (ordered_form S) q) where
-      second : q.sheet ≡ sheet_of (ordered S)
-      second = let t = (same_sheet s b e).again in read_as (ordered_form S) (ordered S) t.verdict t.records q k
+    module _ (read : Sheet) (k : ReadFrom (ordered_form S) (Ok read)) where
+      second : read ≡ sheet_of (ordered S)
+      second = read_as (ordered_form S) (ordered S) (same_sheet s b e).again.records k
 
-      twice : {before exit : List ℕ} {w : Answer} → Writes q.sheet before exit w → length (ordered_form S) ≤ length before → take (length (ordered_form S)) exit ≡ ordered_form S
+      twice : {before exit : List ℕ} {w : Result ℕ Refusal} → Writes read before exit w → length (ordered_form S) ≤ length before → take (length (ordered_form S)) exit ≡ ordered_form S
       twice c m =
           let p = ordered_same S in
           let t = (same_sheet s b e).bytes in
-          rw t at (wrote (ordered S) (accepted_reordered (reordered_back p) acc) q.sheet second c (rw t m)).1
+          rw t at (wrote (ordered S) (accepted_reordered (reordered_back p) acc) read second c (rw t m)).1
 
-    is_again : Again r.sheet (ordered_form S)
+    is_again : Again sheet (ordered_form S)
     is_again =
         record {
-          accepts = λ q k. k.judged ∙ (same_sheet s b e).again.verdict;
+          accepts = is_read (ordered_form S) (same_sheet s b e).again.verdict;
           same = λ q k. same_records first (second q k) (reordered_back (ordered_same S));
           still = λ q k c m. twice q k c m;
         }
 
-    is_kept : {before exit : List ℕ} {w : Answer} → Writes r.sheet before exit w → length s ≤ length before → Kept s r.sheet exit w
+    is_kept : {before exit : List ℕ} {w : Result ℕ Refusal} → Writes sheet before exit w → length s ≤ length before → Kept s sheet exit w
     is_kept c k =
         let (answer, file) = once c k in
-        record { size = length (ordered_form S); no_longer = no_longer; answer = answer; again = subst (Again r.sheet) (sym file) is_again }
+        record { size = length (ordered_form S); no_longer = no_longer; answer = answer; again = subst (Again sheet) (sym file) is_again }
 
 -- ---- the times
 
@@ -159,6 +164,7 @@ pub archive : (s : List ℕ) → AllBytes s → verdict_of s ≡ accepted → Ar
 archive s b e =
     let lowest = in_lowest (commands_of s) (acc s b e) in
     record {
+      reads = is_read s e;
       kept = λ r h c k. is_kept s b e r h c k;
       lowest = lowest;
       one-fraction = λ l acc r q h k. one-fraction r q (lowest r h) (in_lowest l acc q k);

@@ -1,4 +1,5 @@
 -- `desk`: what specs/Desk.antt says holds of every accepted sheet; of one in bytes and of records handed in by `of_bytes` and `of_records` in Sheets.antt.
+use Rattle.std.specs.Prelude.{Result, Ok, Err}
 use mathlib.Core.Path.{◌≡◌, refl, sym, ap, ap₂, ◌∙◌, subst}
 use mathlib.Core.Bool.{Bool, true, false, cond}
 use mathlib.Core.List.{List, [], ◌∷◌, ◌++◌, append-nil}
@@ -13,41 +14,40 @@ use Rattle.sheet.specs.Format.{encode_all}
 use Rattle.sheet.specs.HandedIn.{handed_in, check_of, sheet_of}
 use Rattle.sheet.specs.Lent.{and_then}
 use Rattle.sheet.specs.Listing.{Listing, listing, Reordered}
-use Rattle.sheet.specs.Returned.{Returned, accepted, gives, refused, verdict}
+use Rattle.sheet.specs.Returned.{Returned, accepted, gives, refused, number_of, refusal}
 use Rattle.sheet.specs.Scan.{commands_of}
 use Rattle.sheet.proofs.Lent.{said_given, said_short}
 use Rattle.sheet.proofs.Order.{accepted_reordered}
 use Rattle.sheet.proofs.RoundTrip.{read_back, handed_back}
-use Rattle.sheet_reader.specs.Reading.{if_accepted, records_of}
 use Rattle.rule.specs.declared.Row.{Row}
 use Rattle.rule.specs.RowBytes.{roll_bytes, row_width}
 use Rattle.rule.specs.Selection.{roll_of}
 use Rattle.rule.proofs.Existence.{roll_of_lem}
 use Rattle.rule.proofs.OrderFree.{roll_order}
-use Rattle.sheet.specs.declared.Answer.{Answer}
-use Rattle.sheet.specs.declared.Answer.TheVariants.{Gives, Refused}
+use Rattle.sheet.specs.declared.Refusal.{Refusal}
+use Rattle.sheet.specs.declared.RefusalKind.TheVariants.{OutputTooShort}
 use Rattle.sheet.specs.Answer.{answered}
 use Rattle.session.specs.declared.Session.{Session}
-use Rattle.session.specs.declared.Begun.{Begun}
-use Rattle.session.specs.declared.Advanced.{Advanced}
-use Rattle.session.specs.Stepping.{roll_in, rows_left, next_rows, begun, Begins, Advances}
-use Rattle.session.proofs.Parts.{take_min}
+use Rattle.session.specs.declared.Unopened.{Unopened}
+use Rattle.session.specs.Stepping.{roll_in, rows_left, next_rows, begun, Begins, Restarts, Advances}
+use Rattle.roll_steps.proofs.Parts.{take_min}
+use Rattle.session.proofs.Outcome.{opened_over}
 use Rattle.session.proofs.Steps.{Steps, handed, advanced, not_advanced, reset, so_far}
 use Rattle.promises.specs.Desk as keys
-use Rattle.promises.specs.Desk.{Key, Opened, over_bytes, over_records, adds, Pressed, cursor, View, SameView, Desk}
+use Rattle.promises.specs.Desk.{Key, Opened, over_bytes, over_records, handed_out, adds, Pressed, cursor, View, SameView, Desk}
 use Rattle.grid_run.specs.Demand.{in_bytes, in_records}
 use Rattle.grid_run.proofs.Given.{given_accepted}
 use Rattle.promises.proofs.Sheets.{checks}
 
 -- ---- what an answer adds to the screen
 
-adds-rows : (x : Answer) (k : ℕ) (exit : List ℕ) → answered x ≡ gives k → adds x exit ≡ take (row_width * k) exit
-adds-rows (Gives n) k exit e = let q : n ≡ k = cc in ap (λ (j : ℕ). take (row_width * j) exit) q
-adds-rows (Refused n p) k exit e = absurd (let z : ◌≡◌ {A = ℕ} 0 1 = cc in omega arith)
+adds-rows : (x : Result ℕ Refusal) (k : ℕ) (exit : List ℕ) → answered x ≡ gives k → adds x exit ≡ take (row_width * k) exit
+adds-rows (Ok n) k exit e = let q : n ≡ k = cc in ap (λ (j : ℕ). take (row_width * j) exit) q
+adds-rows (Err r) k exit e = absurd (let z : ◌≡◌ {A = ℕ} 0 1 = cc in omega arith)
 
-adds_none : (x : Answer) (n p : ℕ) (exit : List ℕ) → answered x ≡ refused n p → adds x exit ≡ []
-adds_none (Gives k) n p exit e = absurd (let z : ◌≡◌ {A = ℕ} 0 1 = cc in omega arith)
-adds_none (Refused m q) n p exit e = refl
+adds_none : (x : Result ℕ Refusal) (n p : ℕ) (exit : List ℕ) → answered x ≡ refused n p → adds x exit ≡ []
+adds_none (Ok k) n p exit e = absurd (let z : ◌≡◌ {A = ℕ} 0 1 = cc in omega arith)
+adds_none (Err r) n p exit e = refl
 
 -- ---- where an advance brings the cursor
 
@@ -80,28 +80,29 @@ module _ (l : List Command) (acc : Accepted (listing l)) where
 
   -- ---- opened
 
-  record Begin (r : Begun) : Type 0 where
-    answer : verdict r.answer ≡ accepted
-    reached : Reached [] r.session []
-
-  begin : (r : Begun) → Opened l r → Begin r
+  begun_on : (s : Session) → Opened l (Ok s) → Reached [] s []
   unfolding cursor
-  begin r (over_bytes k f p h) =
-      let v = given_accepted acc (in_bytes k f p) in
+  begun_on s (over_bytes k f p h) =
       let T = listing k in
-      let q : records_of (encode_all k) ≡ T = ap (λ (x : Returned). if_accepted x (listing (commands_of (encode_all k)))) v ∙ ap listing (read_back f) in
-      let c = checks T (accepted_reordered p acc) in
-      let b : Begins (check_of (sheet_of T)) (begun (sheet_of T)) r = record { answer = h.answer ∙ v ∙ sym c; session = h.session ∙ ap (λ (U : Listing). begun (sheet_of U)) q } in
-      record {
-        answer = h.answer ∙ v;
-        reached = record { T = T; same = p; asked = 0; steps = handed (sheet_of T) r b (h.answer ∙ v) (handed_back T); place = omega arith };
-      }
-  begin r (over_records sheet p h) =
-      let v = given_accepted acc (in_records sheet p) in
-      record {
-        answer = h.answer ∙ v;
-        reached = record { T = handed_in sheet; same = p; asked = 0; steps = handed sheet r h (h.answer ∙ v) refl; place = omega arith };
-      }
+      let q : listing (commands_of (encode_all k)) ≡ T = ap listing (read_back f) in
+      let b : Begins (check_of (sheet_of T)) (begun (sheet_of T)) (Ok s) = (checks T (accepted_reordered p acc), opened_over (encode_all k) h.0 h.1 ∙ ap (λ (U : Listing). begun (sheet_of U)) q) in
+      record { T = T; same = p; asked = 0; steps = handed (sheet_of T) s b (handed_back T); place = omega arith }
+  begun_on s (over_records sheet p h) = record { T = handed_in sheet; same = p; asked = 0; steps = handed sheet s h refl; place = omega arith }
+
+  not_refused : {v : Returned} (r : Refusal) → v ≡ accepted → v ≡ refusal r → ⊥
+  not_refused r e f = let g : refused (number_of r.kind) r.place ≡ accepted = sym f ∙ e in let z : ◌≡◌ {A = ℕ} 0 1 = cc in omega arith
+
+  never_unopened : (u : Unopened) → Opened l (Err u) → ⊥
+  never_unopened u (over_bytes k f p h) = not_refused u.refusal (given_accepted acc (in_bytes k f p)) h.0
+  never_unopened u (over_records sheet p h) = not_refused u.refusal (given_accepted acc (in_records sheet p)) h.0
+
+  opens : (r : Result Session Unopened) → Opened l r → (s : Session) × (r ≡ Ok s)
+  opens (Ok s) o = (s, refl)
+  opens (Err u) o = absurd (never_unopened u o)
+
+  begin : (r : Result Session Unopened) → Opened l r → Reached [] (handed_out r) []
+  begin (Ok s) o = begun_on s o
+  begin (Err u) o = absurd (never_unopened u o)
 
   -- ---- a reached session
 
@@ -134,39 +135,40 @@ module _ (l : List Command) (acc : Accepted (listing l)) where
 
     -- ---- an advance
 
-    module _ (n : ℕ) (before exit : List ℕ) (r : Advanced) (h : Advances s n before exit r) where
+    module _ (n : ℕ) (before : List ℕ) (t : Session) (exit : List ℕ) (r : Result ℕ Refusal) (h : Advances s n before t exit r) where
       abbrev k : ℕ
       k = length (next_rows s n)
 
-      with_room : row_width * k ≤ length before → Reached (keys.advance n (length before) ∷ ks) r.session (screen ++ adds r.answer exit)
+      with_room : row_width * k ≤ length before → Reached (keys.advance n (length before) ∷ ks) t (screen ++ adds r exit)
       with_room f =
-          let e = h.answer ∙ said_given (row_width * k) (length before) k accepts f in
+          let g = said_given (row_width * k) (length before) k accepts f in
           let c = next-length n in
-          subst (Reached (keys.advance n (length before) ∷ ks) r.session) (ap (λ (w : List ℕ). screen ++ w) (sym (adds-rows r.answer k exit e)))
+          subst (Reached (keys.advance n (length before) ∷ ks) t) (ap (λ (w : List ℕ). screen ++ w) (sym (adds-rows r k exit (h.answer ∙ g))))
           (record {
             T = p.T;
             same = p.same;
             asked = p.asked + n;
-            steps = advanced s screen p.asked n before exit r k p.steps h e;
+            steps = advanced s screen p.asked n before t exit k p.steps (record { answer = sym g; session = h.session; buffer = h.buffer });
             place = omega (arith, p.place, moves m n (length before) ks (omega arith));
           })
 
-      without : length before < row_width * k → leb (row_width * min n (m - cursor m ks)) (length before) ≡ false → Reached (keys.advance n (length before) ∷ ks) r.session (screen ++ adds r.answer exit)
+      without : length before < row_width * k → leb (row_width * min n (m - cursor m ks)) (length before) ≡ false → Reached (keys.advance n (length before) ∷ ks) t (screen ++ adds r exit)
       without f b =
-          let e = h.answer ∙ said_short (row_width * k) (length before) k accepts f in
-          subst (Reached (keys.advance n (length before) ∷ ks) r.session) (sym (append-nil screen) ∙ ap (λ (w : List ℕ). screen ++ w) (sym (adds_none r.answer 12 (row_width * k) exit e)))
+          let g = said_short (row_width * k) (length before) k accepts f in
+          let e : Refusal = record { kind = OutputTooShort; place = row_width * k } in
+          subst (Reached (keys.advance n (length before) ∷ ks) t) (sym (append-nil screen) ∙ ap (λ (w : List ℕ). screen ++ w) (sym (adds_none r 12 (row_width * k) exit (h.answer ∙ g))))
           (record {
             T = p.T;
             same = p.same;
             asked = p.asked;
-            steps = not_advanced s screen p.asked n before exit r 12 (row_width * k) p.steps h e;
+            steps = not_advanced s screen p.asked n before t exit e p.steps (record { answer = sym g; session = h.session; buffer = h.buffer });
             place = p.place ∙ sym (stays m n (length before) ks b);
           })
 
-      steps_on : Reached (keys.advance n (length before) ∷ ks) r.session (screen ++ adds r.answer exit)
+      steps_on : Reached (keys.advance n (length before) ∷ ks) t (screen ++ adds r exit)
       steps_on = go (leb (row_width * min n (m - cursor m ks)) (length before)) refl
         where
-          go : (b : Bool) → leb (row_width * min n (m - cursor m ks)) (length before) ≡ b → Reached (keys.advance n (length before) ∷ ks) r.session (screen ++ adds r.answer exit)
+          go : (b : Bool) → leb (row_width * min n (m - cursor m ks)) (length before) ≡ b → Reached (keys.advance n (length before) ∷ ks) t (screen ++ adds r exit)
           go true e = with_room (omega (arith, next-length n, leb-true (row_width * min n (m - cursor m ks)) (length before) e))
           go false e = without (omega (arith, next-length n, leb-false (row_width * min n (m - cursor m ks)) (length before) e)) e
 
@@ -174,11 +176,12 @@ module _ (l : List Command) (acc : Accepted (listing l)) where
 
   reached : {ks : List Key} {s : Session} {screen : List ℕ} → Pressed l ks s screen → Reached ks s screen
   unfolding cursor
-  reached (keys.opened r o) = (begin r o).reached
-  reached (keys.advanced n before exit r p h) = steps_on (reached p) n before exit r h
-  reached (keys.restarted {s = s} {screen} r p h) =
+  reached (keys.opened r o) = begin r o
+  reached (keys.advanced n before t exit r p h) = steps_on (reached p) n before t exit r h
+  reached (keys.restarted {s = s} {screen} t r p h) =
       let q = reached p in
-      record { T = q.T; same = q.same; asked = 0; steps = reset s screen q.asked r q.steps h (h.answer ∙ accepts q); place = omega arith }
+      let again : Restarts s t (Ok tt) = record { answer = sym (accepts q); session = h.session } in
+      record { T = q.T; same = q.same; asked = 0; steps = reset s screen q.asked t tt q.steps again; place = omega arith }
 
   view : {ks : List Key} {s : Session} {screen : List ℕ} → Pressed l ks s screen → View (roll_of S) (cursor m ks) s screen
   view p = is_view (reached p)
@@ -198,7 +201,7 @@ desk l acc =
     record {
       roll = roll_of (listing l);
       is_roll = roll_of_lem (listing l) acc;
-      opens = λ r o. (begin l acc r o).answer;
+      opens = opens l acc;
       view = view l acc;
       same = λ p q. same_view l acc (view l acc p) (view l acc q);
       refreshed = refresh l acc;

@@ -1,5 +1,6 @@
 -- What the runs of an accepted sheet leave. Main theorems: `left`, with room for it every run leaves the one roll; `front`, its bytes stand at the buffer's start;
 -- `in_roll` and `reads`, the rows read back are the roll's own.
+use Rattle.std.specs.Prelude.{Some}
 use mathlib.Core.Path.{◌≡◌, refl, sym, ap, ◌∙◌, subst}
 use mathlib.Core.List.{List, ◌++◌}
 use Prim.Native.Nat.{ℕ, ◌*◌, ◌<◌}
@@ -26,7 +27,6 @@ use Rattle.cells.specs.Grid.{figure_check}
 use Rattle.cells.proofs.Figures.{figure_is, figure_checked}
 use Rattle.plain_run.specs.Rolled.{roll_returns}
 use Rattle.grid_run.proofs.Given.{given_accepted, given_records}
-use Rattle.row.specs.declared.Stored.TheVariants.{Found}
 use Rattle.row.specs.Stored.{row_in}
 use Rattle.row.proofs.ReadBack.{row_back}
 use Rattle.grid_run.specs.GridRolled.{Reported}
@@ -72,7 +72,7 @@ module _ (l : List Command) (acc : Accepted (listing l)) where
   -- ---- rows read back
 
   module _ (bytes rest : List ℕ) (e : bytes ≡ roll_bytes (roll_of S) ++ rest) where
-    at_place : (k : ℕ) → k < row_count l → row_in bytes k ≡ Found (get_or (roll_of S) k blank)
+    at_place : (k : ℕ) → k < row_count l → row_in bytes k ≡ Some (get_or (roll_of S) k blank)
     at_place k h =
         let i : k < length (roll_of S) = omega (arith, roll_length S acc) in
         ap (λ (b : List ℕ). row_in b k) e ∙ row_back (roll_of S) rest k blank i (roll_fits S acc (get_or (roll_of S) k blank) (mem_at blank (roll_of S) k i))
@@ -81,13 +81,13 @@ module _ (l : List Command) (acc : Accepted (listing l)) where
     reads r m =
         let (k, h, q) = at_mem blank (roll_of S) r m in
         let i : k < row_count l = omega (arith, roll_length S acc) in
-        record { place = k; below = i; found = at_place k i ∙ ap Found q }
+        record { place = k; below = i; found = at_place k i ∙ ap Some q }
 
     read_in : (r : Row) → Reads bytes (row_count l) r → r ∈ roll_of S
     read_in r h =
         let k = h.place in
         let i : k < length (roll_of S) = omega (arith, h.below, roll_length S acc) in
-        let f : Found (get_or (roll_of S) k blank) ≡ Found r = sym (at_place k h.below) ∙ h.found in
+        let f : Some (get_or (roll_of S) k blank) ≡ Some r = sym (at_place k h.below) ∙ h.found in
         let q : get_or (roll_of S) k blank ≡ r = cc in
         subst (λ (z : Row). z ∈ roll_of S) q (mem_at blank (roll_of S) k i)
 

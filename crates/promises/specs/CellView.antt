@@ -1,7 +1,7 @@
 -- What the desk's cell view relies on. It lists one cell again and again, from whatever order the sheet comes in, and the list does not jump (SHEETS 6.10, 6.11).
 -- Proved of every accepted sheet as `cell-view` in proofs/CellView.antt.
-use Rattle.std.specs.Prelude.{◌≡◌, List, ◌++◌, ℕ, ◌*◌, ◌≤◌, ◌<◌, length, drop}
-use Rattle.sheet.specs.declared.Answer.{Answer}
+use Rattle.std.specs.Prelude.{◌≡◌, List, ◌++◌, ℕ, ◌*◌, ◌≤◌, ◌<◌, length, drop, Result}
+use Rattle.sheet.specs.declared.Refusal.{Refusal}
 use Rattle.sheet.specs.declared.Command.{Command}
 use Rattle.sheet.specs.Accepted.{Pairwise}
 use Rattle.sheet.specs.Answer.{answered}
@@ -18,7 +18,7 @@ use Rattle.grid_run.specs.Demand.{Given}
 
 -- a call of the cell listing on the sheet of commands l, given in any order and as bytes or records: the caller's buffer before and after it, and what it returned
 pub data Call (l : List Command) (g column row : ℕ) (before exit : List ℕ) : Returned → Type 0 where
-  call : {v : Returned} {S : Listing} (r : Answer) → Given l v S → Lists v S g column row before exit r → Call l g column row before exit (answered r)
+  call : {v : Returned} {S : Listing} (r : Result ℕ Refusal) → Given l v S → Lists v S g column row before exit r → Call l g column row before exit (answered r)
 
 -- what the view shows of a cell: the ids of the tracks with a point there, each once, as their traces enter it; no other list is that
 pub record CellList (l : List Command) (roll : List Row) (g : ℕ) (k : Cell) (ids : List ℕ) : Type 0 where

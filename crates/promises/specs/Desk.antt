@@ -1,23 +1,21 @@
 -- What the duty desk relies on. It steps through the roll, and tips that end together keep one order at every refresh: after the same keys
 -- on any order of the sheet's commands the same rows are shown and the cursor stands on the same fissure (SHEETS 7.7). Proved of every accepted sheet as `desk` in proofs/Desk.antt.
-use Rattle.std.specs.Prelude.{◌≡◌, cond, List, [], ◌∷◌, ◌++◌, ℕ, ◌+◌, ◌-◌, ◌*◌, ◌≤◌, min, leb, length, take, drop}
+use Rattle.std.specs.Prelude.{◌≡◌, cond, List, [], ◌∷◌, ◌++◌, ℕ, ◌+◌, ◌-◌, ◌*◌, ◌≤◌, min, leb, length, take, drop, Result, Ok, Err}
 use Rattle.sheet.specs.declared.Command.{Command}
 use Rattle.sheet.specs.declared.Sheet.{Sheet}
 use Rattle.sheet.specs.Format.{AllFit, encode_all}
 use Rattle.sheet.specs.HandedIn.{handed_in, check_of, sheet_of}
 use Rattle.sheet.specs.Listing.{listing, Reordered}
-use Rattle.sheet.specs.Returned.{accepted, gives, verdict}
+use Rattle.sheet.specs.Returned.{gives}
 use Rattle.sheet.specs.Scan.{verdict_of}
 use Rattle.sheet_reader.specs.Reading.{records_of}
 use Rattle.rule.specs.declared.Row.{Row}
 use Rattle.rule.specs.Roll.{RollOf}
 use Rattle.rule.specs.RowBytes.{roll_bytes, row_width}
-use Rattle.sheet.specs.declared.Answer.{Answer}
-use Rattle.sheet.specs.declared.Answer.TheVariants.{Gives, Refused}
+use Rattle.sheet.specs.declared.Refusal.{Refusal}
 use Rattle.session.specs.declared.Session.{Session}
-use Rattle.session.specs.declared.Begun.{Begun}
-use Rattle.session.specs.declared.Advanced.{Advanced}
-use Rattle.session.specs.Stepping.{begun, restart, Begins, Advances, next_rows, running_of}
+use Rattle.session.specs.declared.Unopened.{Unopened}
+use Rattle.session.specs.Stepping.{begun, Begins, Restarts, Advances, next_rows, running_of}
 
 -- ---- the keys and what they do
 
@@ -27,24 +25,29 @@ pub data Key : Type 0 where
   reset : Key
 
 -- a session opened on the sheet of commands l: over bytes that list its records in any order, a start time of 0 by 01 or by 03, or over records (SHEETS 2.5, 7.1)
-pub data Opened (l : List Command) (r : Begun) : Type 0 where
+pub data Opened (l : List Command) (r : Result Session Unopened) : Type 0 where
   over_bytes : (k : List Command) → AllFit k → Reordered (listing l) (listing k) → Begins (verdict_of (encode_all k)) (begun (sheet_of (records_of (encode_all k)))) r → Opened l r
   over_records : (sheet : Sheet) → Reordered (listing l) (handed_in sheet) → Begins (check_of sheet) (begun sheet) r → Opened l r
 
+-- the session that an opening hands out, beside a refusal too (SHEETS 7.8)
+abbrev pub handed_out : Result Session Unopened → Session
+handed_out (Ok s) = s
+handed_out (Err u) = u.session
+
 -- what an advance adds to the screen: the rows that it says it wrote
-abbrev pub adds : Answer → List ℕ → List ℕ
-adds (Gives k) exit = take (row_width * k) exit
-adds (Refused number place) exit = []
+abbrev pub adds : Result ℕ Refusal → List ℕ → List ℕ
+adds (Ok k) exit = take (row_width * k) exit
+adds (Err r) exit = []
 
 -- the session and the screen after some keys, the last key first; each call meets its contract. A reset clears the screen
 pub data Pressed (l : List Command) : List Key → Session → List ℕ → Type 0 where
-  opened : (r : Begun) → Opened l r → Pressed l [] r.session []
+  opened : (r : Result Session Unopened) → Opened l r → Pressed l [] (handed_out r) []
   advanced :
-      {keys : List Key} {s : Session} {screen : List ℕ} (n : ℕ) (before exit : List ℕ) (r : Advanced) → Pressed l keys s screen → Advances s n before exit r
-      → Pressed l (advance n (length before) ∷ keys) r.session (screen ++ adds r.answer exit)
+      {keys : List Key} {s : Session} {screen : List ℕ} (n : ℕ) (before : List ℕ) (t : Session) (exit : List ℕ) (r : Result ℕ Refusal) → Pressed l keys s screen → Advances s n before t exit r
+      → Pressed l (advance n (length before) ∷ keys) t (screen ++ adds r exit)
   restarted :
-      {keys : List Key} {s : Session} {screen : List ℕ} (r : Begun) → Pressed l keys s screen → Begins (check_of s.sheet) (restart (check_of s.sheet) s) r
-      → Pressed l (reset ∷ keys) r.session []
+      {keys : List Key} {s : Session} {screen : List ℕ} (t : Session) (r : Result (Unit {0}) Refusal) → Pressed l keys s screen → Restarts s t r
+      → Pressed l (reset ∷ keys) t []
 
 -- ---- where the cursor stands
 
@@ -77,7 +80,7 @@ pub record Desk (l : List Command) : Type 0 where
   pub roll : List Row
   pub is_roll : RollOf (listing l) roll
   -- every order of the commands opens
-  pub opens : (r : Begun) → Opened l r → verdict r.answer ≡ accepted
+  pub opens : (r : Result Session Unopened) → Opened l r → (s : Session) × (r ≡ Ok s)
   -- after any keys the desk sees what the keys alone say
   pub view : {keys : List Key} {s : Session} {screen : List ℕ} → Pressed l keys s screen → View roll (cursor (length roll) keys) s screen
   -- so after the same keys two orders of the commands look the same

@@ -1,8 +1,8 @@
 -- What the mapping section relies on when it loads a sheet's layers as shapefiles: each file has a shape for each row, a reader finds them all, and no order of the sheet changes
 -- a byte (SHEETS 12). Proved of every accepted sheet as `layers` in proofs/Layers.antt.
-use Rattle.std.specs.Prelude.{◌≡◌, List, [], ◌∷◌, ◌++◌, ◌↔◌, ℕ, ◌+◌, ◌*◌, ◌≤◌, ◌<◌, length, drop}
+use Rattle.std.specs.Prelude.{◌≡◌, List, [], ◌∷◌, ◌++◌, ◌↔◌, ℕ, ◌+◌, ◌*◌, ◌≤◌, ◌<◌, length, drop, Result}
 use Rattle.fraction.specs.Whole.{Whole, nat, ◌⊑◌, ◌⊕◌, ◌·◌}
-use Rattle.sheet.specs.declared.Answer.{Answer}
+use Rattle.sheet.specs.declared.Refusal.{Refusal}
 use Rattle.sheet.specs.declared.Command.{Command}
 use Rattle.sheet.specs.declared.Track.{Track}
 use Rattle.sheet.specs.Answer.{answered}
@@ -25,7 +25,7 @@ use Rattle.shape_layers.specs.Layers.{layer_file}
 
 -- a call of an export on the sheet of commands l, given in any order and as bytes or records (SHEETS 12.1): the caller's buffer before and after it, and what it returned
 pub data Export (l : List Command) (layer : Layer) (part : Part) (before exit : List ℕ) : Returned → Type 0 where
-  export : {v : Returned} {S : Listing} (r : Answer) → Given l v S → Exports v (layer_file layer part S) before exit r → Export l layer part before exit (answered r)
+  export : {v : Returned} {S : Listing} (r : Result ℕ Refusal) → Given l v S → Exports v (layer_file layer part S) before exit r → Export l layer part before exit (answered r)
 
 -- the shape of a row, in 64ths
 pub data ShapeOf (l : List Command) (r : Row) : Layer → Figure → Type 0 where

@@ -1,5 +1,6 @@
 -- What a step writes and returns. Main theorems: `copied` and `none`, a part of a roll in the buffer; `too_short` and `steps_on`, the two endings of
 -- a step. `every_row`: an accepted sheet has as many rows as tracks.
+use Rattle.std.specs.Prelude.{Ok, Err}
 use mathlib.Core.Path.{◌≡◌, refl, sym, ap, ◌∙◌}
 use mathlib.Core.List.{List, ◌++◌}
 use Prim.Native.Nat.{ℕ, ◌+◌, ◌-◌, ◌*◌, ◌≤◌, ◌<◌, min}
@@ -9,7 +10,7 @@ use Rattle.sheet.specs.declared.Sheet.{Sheet}
 use Rattle.sheet.specs.HandedIn.{handed_in}
 use Rattle.sheet.specs.Lent.{and_then}
 use Rattle.sheet.specs.Returned.{accepted}
-use Rattle.sheet.specs.declared.Answer.TheVariants.{Gives, Refused}
+use Rattle.sheet.specs.declared.RefusalKind.TheVariants.{OutputTooShort}
 use Rattle.sheet.proofs.Lent as ending
 use Rattle.rule.specs.declared.Row.{Row}
 use Rattle.rule.specs.RowBytes.{roll_bytes, row_width}
@@ -75,13 +76,13 @@ module _ (roll : List Row) (shown n : ℕ) (before : List ℕ) {step : NextRows}
   running_then : step.running ≡ length (drop step.shown roll)
   running_then = p.running ∙ sym (length-drop step.shown roll)
 
-  pub too_short : length before < row_width * step.count → GoesOn roll shown n before before (record { shown = step.shown; running = step.running; answer = Refused 12 (row_width * step.count) })
+  pub too_short : length before < row_width * step.count → GoesOn roll shown n before before (Err (record { kind = OutputTooShort; place = row_width * step.count }))
   unfolding and_then
   too_short h =
       let (a, b) = ending.too_short {v = accepted} (roll_bytes rows) before (length rows) refl (ap (λ (j : ℕ). row_width * j) as_many) h in
-      record { answer = a; shown = shown_then_lem; running = running_then; buffer = b }
+      record { answer = a; stands = tt; buffer = b }
 
-  pub steps_on : {exit : List ℕ} → row_width * step.count ≤ length before → Written (take step.count (drop step.from roll)) before exit → GoesOn roll shown n before exit (record { shown = step.shown; running = step.running; answer = Gives step.count })
+  pub steps_on : {exit : List ℕ} → row_width * step.count ≤ length before → Written (take step.count (drop step.from roll)) before exit → GoesOn roll shown n before exit (Ok step)
   unfolding and_then
   steps_on {exit} h w =
       let g : exit ≡ roll_bytes rows ++ drop (length (roll_bytes rows)) before =
@@ -89,4 +90,4 @@ module _ (roll : List Row) (shown n : ℕ) (before : List ℕ) {step : NextRows}
       ∙ ap (λ (l : List Row). roll_bytes l ++ drop (row_width * length l) before) same_rows
       ∙ ap (λ (j : ℕ). roll_bytes rows ++ drop j before) (sym (roll_bytes_length rows)) in
       let (a, b) = ending.stored {v = accepted} (roll_bytes rows) before (row_width * length rows) refl as_many (omega (arith, as_many)) g in
-      record { answer = a; shown = shown_then_lem; running = running_then; buffer = b }
+      record { answer = a; stands = record { shown = shown_then_lem; running = running_then }; buffer = b }

@@ -1,11 +1,11 @@
 -- A step through a roll: the answer, the buffer's contents at exit, and where a session stands behind the rows.
-use Rattle.std.specs.Prelude.{◌≡◌, List, ℕ, ◌+◌, ◌*◌, min, length, take, drop}
-use Rattle.sheet.specs.Answer.{answered}
+use Rattle.std.specs.Prelude.{◌≡◌, List, ℕ, ◌+◌, ◌*◌, min, length, take, drop, Result, Ok, Err, IfOk}
+use Rattle.sheet.specs.declared.Refusal.{Refusal}
 use Rattle.sheet.specs.Lent.{or_short, after}
-use Rattle.sheet.specs.Returned.{Returned}
+use Rattle.sheet.specs.Returned.{Returned, gives, refusal}
 use Rattle.rule.specs.declared.Row.{Row}
 use Rattle.rule.specs.RowBytes.{roll_bytes, row_width}
-use Rattle.roll_steps.specs.declared.Stepped.{Stepped}
+use Rattle.cursor.specs.declared.NextRows.{NextRows}
 
 -- the next n rows, or those left if fewer (SHEETS 7.2); more rows shown than the roll has are all of them (SHEETS 7.5)
 abbrev pub next_of : List Row → ℕ → ℕ → List Row
@@ -19,9 +19,17 @@ shown_then roll shown n = min shown (length roll) + length (next_of roll shown n
 abbrev pub step_returns : List Row → ℕ → Returned
 step_returns rows lent = or_short (row_width * length rows) lent (length rows)
 
-pub record GoesOn (roll : List Row) (shown_before n : ℕ) (before exit : List ℕ) (r : Stepped) : Type 0 where
-  pub answer : answered r.answer ≡ step_returns (next_of roll shown_before n) (length before)
-  pub shown : r.shown ≡ shown_then roll shown_before n
-  -- the rows not yet shown (SHEETS 7.4)
-  pub running : r.running ≡ length (drop r.shown roll)
+-- what a step gives, in the numbers of SHEETS 3.1
+abbrev pub stepped : Result NextRows Refusal → Returned
+stepped (Ok step) = gives step.count
+stepped (Err r) = refusal r
+
+-- the rows shown behind a step, and those not yet shown (SHEETS 7.4)
+pub record Stands (roll : List Row) (shown_before n : ℕ) (step : NextRows) : Type 0 where
+  pub shown : step.shown ≡ shown_then roll shown_before n
+  pub running : step.running ≡ length (drop step.shown roll)
+
+pub record GoesOn (roll : List Row) (shown_before n : ℕ) (before exit : List ℕ) (r : Result NextRows Refusal) : Type 0 where
+  pub answer : stepped r ≡ step_returns (next_of roll shown_before n) (length before)
+  pub stands : IfOk r (Stands roll shown_before n)
   pub buffer : exit ≡ after (step_returns (next_of roll shown_before n) (length before)) (roll_bytes (next_of roll shown_before n)) before

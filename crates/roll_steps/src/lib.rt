@@ -9,15 +9,8 @@ ghost use Rattle.rule.specs.Selection.{roll_of};
 ghost use Rattle.row.specs.Written.{Written};
 ghost use Rattle.roll_steps.specs.Stepped.{GoesOn};
 
-use sheet::{Answer, OUTPUT_TOO_SHORT, Sheet};
-
-// The number of rows written, or 12, and where a session stands behind the rows.
-#[derive(Clone, Copy)]
-pub struct Stepped {
-    pub shown: usize,
-    pub running: usize,
-    pub answer: Answer,
-}
+use cursor::NextRows;
+use sheet::{Refusal, RefusalKind, Sheet};
 
 // Some rows of the roll, from row `from` on. Where they are none the roll is not worked out.
 fn put_rows(sheet: Sheet, from: usize, count: usize, out: &mut [u8])
@@ -36,29 +29,19 @@ fn put_rows(sheet: Sheet, from: usize, count: usize, out: &mut [u8])
     out[..needed].copy_from_slice(part);
 }
 
-// Writes the next n rows, or those left if fewer.
-pub fn advance(sheet: Sheet, shown: usize, n: usize, out: &mut [u8]) -> Stepped
+// Writes the next n rows, or those left if fewer; refused where they have no room.
+pub fn advance(sheet: Sheet, shown: usize, n: usize, out: &mut [u8]) -> Result<NextRows, Refusal>
     requires { Handed sheet }
     ensures { GoesOn (roll_of (handed_in sheet)) shown n out.old out.new result }
 {
     let step = cursor::step(sheet.ntracks, shown, n);
-    let shown = step.shown;
-    let running = step.running;
-    let count = step.count;
-    let needed = row::WIDTH * count;
+    let needed = row::WIDTH * step.count;
     if out.len() < needed {
-        let answer = Answer::Refused(OUTPUT_TOO_SHORT, needed);
-        return Stepped {
-            shown,
-            running,
-            answer,
-        };
+        return Err(Refusal {
+            kind: RefusalKind::OutputTooShort,
+            place: needed,
+        });
     }
-    put_rows(sheet, step.from, count, out);
-    let answer = Answer::Gives(count);
-    Stepped {
-        shown,
-        running,
-        answer,
-    }
+    put_rows(sheet, step.from, step.count, out);
+    Ok(step)
 }

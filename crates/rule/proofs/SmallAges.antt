@@ -16,7 +16,7 @@ use Rattle.sheet.specs.declared.Wall.{Wall}
 use Rattle.sheet.specs.Accepted.{TrackOk, WallOk}
 use Rattle.rule.specs.Motion.{clock}
 use Rattle.rule.specs.Contact.{Quot, never, when, over, zero_z, D, N, M, reach, reach_by, Ages, apart, meet, both, face_by, face₁, face_on, on_line, ages, ages_by, Contact, nowhere, hit, in_order, ordered, delayed, shifted, contact}
-use Rattle.rule.specs.WallTime.{oneᵗ, along, turned, sooner_of_lem, earlier, if_part, part, wall_by, wall_age, opened, wall_time}
+use Rattle.rule.specs.WallTime.{oneᵗ, along, turned, sooner_of, earlier, if_part, part, wall_by, wall_age, opened, wall_time}
 use Rattle.rule.specs.EdgeTime.{exit, edge_age, edge_time, rim_of, rim}
 use Rattle.rule.proofs.OneLine.{Moves}
 use Rattle.rule.proofs.Edges.{EdgeMeansᵃ, leaves_atᵃ, edge_meansᵃ}
@@ -76,12 +76,12 @@ over_small (pos (suc n)) (negsuc d) h k = tt
 over_small (negsuc n) (negsuc d) h k = record { num_in = h.abs; den_in = k.abs }
 
 earlier_small : (q r : Quot) → QuotSmall q → QuotSmall r → QuotSmall (earlier q r)
-unfolding earlier sooner_of_lem
+unfolding earlier sooner_of
 earlier_small never r h k = k
 earlier_small (when t) never h k = h
 earlier_small (when t) (when r) h k = go (≤ᵗ_or_<ᵗ t r)
   where
-    go : (d : (t ≤ᵗ r) ⊎ (r <ᵗ t)) → Aged (sooner_of_lem t r d)
+    go : (d : (t ≤ᵗ r) ⊎ (r <ᵗ t)) → Aged (sooner_of t r d)
     go (inl d) = h
     go (inr d) = k
 

@@ -1,95 +1,91 @@
 -- What the calls on a session return and leave, in each of their endings.
-use mathlib.Core.Path.{◌≡◌, refl, sym, ap, ◌∙◌}
-use mathlib.Core.List.{List, ◌++◌}
-use Prim.Native.Nat.{ℕ, ◌+◌, ◌-◌, ◌*◌, ◌≤◌, ◌<◌, min}
+use Rattle.std.specs.Prelude.{Result, Ok, Err, IfOk}
+use mathlib.Core.Path.{◌≡◌, refl, sym, ap, ◌∙◌, subst}
+use mathlib.Core.List.{List}
+use Prim.Native.Nat.{ℕ, ◌+◌, ◌-◌, ◌*◌, min}
 use native.Mathlib.Omega.{arith}
-use lib.ListN.{length, take, drop, length-take, length-drop}
-use Rattle.sheet.specs.Returned.{accepted, gives, refused}
-use Rattle.sheet.specs.HandedIn.{handed_in, check_of}
+use lib.ListN.{length, length-drop}
+use Rattle.sheet.specs.Returned.{Returned, accepted, gives, refusal}
+use Rattle.sheet.specs.HandedIn.{handed_in, listed_form, check_of, sheet_of}
+use Rattle.sheet.specs.Scan.{verdict_of, commands_of}
+use Rattle.sheet_reader.specs.Reading.{if_accepted, records_of}
 use Rattle.sheet.specs.Lent.{and_then}
+use Rattle.sheet.proofs.Decided.{decided}
 use Rattle.sheet.proofs.Lent as ending
 use Rattle.rule.specs.RowBytes.{roll_bytes, row_width}
+use Rattle.rule.specs.Selection.{roll_of}
 use Rattle.rule.proofs.Existence.{roll_length}
-use Rattle.rule.proofs.RowBytes.{roll_bytes_length}
-use Rattle.records.specs.Records.{Handed}
-use Rattle.sheet.specs.declared.Answer.{Answer}
+use Rattle.source.specs.Accepts.{Ready}
+use Rattle.sheet.specs.declared.Sheet.{Sheet}
+use Rattle.sheet.specs.declared.Refusal.{Refusal}
+use Rattle.sheet.specs.Accepted.{Accepted}
+use Rattle.sheet.specs.Listing.{Listing, listing}
 use Rattle.plain_run.proofs.Outcome.{tracks_count}
-use Rattle.sheet.specs.declared.Answer.TheVariants.{Gives, Refused}
+use Rattle.sheet.specs.Lent.{after}
+use Rattle.cursor.specs.declared.NextRows.{NextRows}
+use Rattle.roll_steps.specs.Stepped.{step_returns, stepped, Stands, GoesOn}
 use Rattle.session.specs.declared.Session.{Session}
-use Rattle.session.specs.Stepping.{roll_in, rows_left, next_rows, shown_in, restart, begun, advance_session, Advances, running_of}
-use Rattle.session.proofs.Parts.{take_min, drop_min, rows_at}
+use Rattle.session.specs.Stepping.{roll_in, rows_left, next_rows, shown_in, restart, begun, Restarts, advance_session, advance_of, Advances, running_of}
+
+-- a session opened over accepted bytes has the records that they list
+pub opened_over : (b : List ℕ) {s : Session} → verdict_of b ≡ accepted → s ≡ begun (sheet_of (records_of b)) → s ≡ begun (sheet_of (listing (commands_of b)))
+opened_over b e q = q ∙ ap (λ (v : Returned). begun (sheet_of (if_accepted v (listing (commands_of b))))) e
 
 -- an accepted sheet has as many rows as tracks
-pub every_row : (s : Session) → Handed s.sheet → length (roll_in s) ≡ s.sheet.ntracks
-every_row s h = roll_length (handed_in s.sheet) h.accepted ∙ tracks_count h
+pub every_row : (s : Session) {v : Returned} {sheet : Sheet} → Ready v (handed_in s.sheet) sheet → length (roll_in s) ≡ sheet.ntracks
+every_row s h =
+    roll_length (handed_in s.sheet) (subst Accepted h.same h.handed.accepted)
+    ∙ ap (λ (S : Listing). length S.tracks) (sym h.same)
+    ∙ tracks_count h.handed
 
 module _ (s : Session) (n : ℕ) (before : List ℕ) where
-  abbrev bytes : List ℕ
-  bytes = roll_bytes (next_rows s n)
-
   -- as the sheet is refused
-  pub sheet_refused : {a b : ℕ} {r : Answer} → check_of s.sheet ≡ refused a b → r ≡ Refused a b → Advances s n before before (record { session = s; answer = r })
+  pub sheet_refused : (r : Refusal) → check_of s.sheet ≡ refusal r → Advances s n before s before (Err r)
   unfolding advance_session
-  sheet_refused e q =
-      let (x, b) = ending.as_refused bytes before (row_width * length (next_rows s n)) (length (next_rows s n)) e in
-      record { answer = rw q x; session = rw (sym x) refl; buffer = b }
+  sheet_refused r e =
+      let (x, b) = ending.as_refused (roll_bytes (next_rows s n)) before (row_width * length (next_rows s n)) (length (next_rows s n)) e in
+      record { answer = x; session = rw (sym x) refl; buffer = b }
 
-  module _ (ok : check_of s.sheet ≡ accepted) {all from k : ℕ} (a : length (roll_in s) ≡ all) (f : from ≡ min s.shown all) (m : k ≡ min n (all - from)) where
-    count : length (next_rows s n) ≡ k
-    count = length-take n (rows_left s) ∙ omega (arith, length-drop s.shown (roll_in s))
+  -- as the step through its roll goes
+  module _ {S : Listing} {exit : List ℕ} {r : Result NextRows Refusal} (ok : check_of s.sheet ≡ accepted) (o : S ≡ handed_in s.sheet) (h : GoesOn (roll_of S) s.shown n before exit r) where
+    on : GoesOn (roll_in s) s.shown n before exit r
+    on = subst (λ (T : Listing). GoesOn (roll_of T) s.shown n before exit r) o h
 
-    rows : take k (drop from (roll_in s)) ≡ next_rows s n
-    rows =
-        let e : from ≡ min s.shown (length (roll_in s)) = omega arith in
-        let g : k ≡ min n (length (rows_left s)) = omega (arith, length-drop s.shown (roll_in s)) in
-        ap (λ (i : ℕ). take k (drop i (roll_in s))) e
-        ∙ ap (take k) (drop_min s.shown (roll_in s))
-        ∙ ap (λ (j : ℕ). take j (rows_left s)) g
-        ∙ take_min n (rows_left s)
+    goes : step_returns (next_rows s n) (length before) ≡ advance_of s n (length before)
+    unfolding and_then
+    goes = rw ok refl
 
-    pub too_short : length before < row_width * k → Advances s n before before (record { session = s; answer = Refused 12 (row_width * k) })
+    pub step_refused : (f : Refusal) → r ≡ Err f → Advances s n before s exit (Err f)
     unfolding advance_session
-    too_short h =
-        let (x, b) = ending.too_short bytes before (length (next_rows s n)) ok (ap (λ (j : ℕ). row_width * j) count) h in
-        record { answer = x; session = rw (sym x) refl; buffer = b }
+    step_refused f e =
+        let x = sym (ap stepped e) ∙ on.answer ∙ goes in
+        record { answer = x; session = rw (sym x) refl; buffer = on.buffer ∙ ap (λ (R : Returned). after R (roll_bytes (next_rows s n)) before) goes }
 
-    pub shows : (rest : List ℕ) {exit whole part : List ℕ} → row_width * k ≤ length before → whole ≡ roll_bytes (roll_in s) ++ rest
-        → part ≡ take (row_width * from + row_width * k - row_width * from) (drop (row_width * from) whole) → exit ≡ part ++ drop (row_width * k) before
-        → Advances s n before exit (record { session = record { sheet = s.sheet; shown = from + k }; answer = Gives k })
+    pub step_on : (step : NextRows) → r ≡ Ok step → Advances s n before (record { sheet = s.sheet; shown = step.shown }) exit (Ok step.count)
     unfolding advance_session
-    shows rest {exit} {whole} {part} h w p q =
-        let new = next_rows s n in
-        let i : row_width * from + row_width * k - row_width * from ≡ row_width * k = omega arith in
-        let e : from + k ≡ shown_in s + k = omega arith in
-        let g : part ≡ roll_bytes new =
-        p
-        ∙ ap (λ (j : ℕ). take j (drop (row_width * from) whole)) i
-        ∙ ap (λ (x : List ℕ). take (row_width * k) (drop (row_width * from) x)) w
-        ∙ rows_at from k (roll_in s) rest (omega arith)
-        ∙ ap roll_bytes rows in
-        let x : exit ≡ bytes ++ drop (length bytes) before =
-        q
-        ∙ ap (λ (y : List ℕ). y ++ drop (row_width * k) before) g
-        ∙ ap (λ (j : ℕ). bytes ++ drop j before) (sym (roll_bytes_length new ∙ ap (λ (j : ℕ). row_width * j) count)) in
-        let (a, b) = ending.stored bytes before (row_width * length new) ok count (omega (arith, count)) x in
-        record { answer = a; session = rw (sym a) (ap (λ (j : ℕ). record { sheet = s.sheet; shown = j }) e); buffer = b }
+    step_on step e =
+        let x = sym (ap stepped e) ∙ on.answer ∙ goes in
+        let stands : Stands (roll_in s) s.shown n step = subst (λ (z : Result NextRows Refusal). IfOk z (Stands (roll_in s) s.shown n)) e on.stands in
+        let rows = next_rows s n in
+        let count = (ending.gave (row_width * length rows) (length before) (length rows) (decided (listed_form s.sheet)) x).count in
+        let shown = stands.shown ∙ ap (λ (j : ℕ). shown_in s + j) (sym count) in
+        record { answer = x; session = rw (sym x) (ap (λ (j : ℕ). record { sheet = s.sheet; shown = j }) shown); buffer = on.buffer ∙ ap (λ (R : Returned). after R (roll_bytes (next_rows s n)) before) goes }
 
 module _ (s : Session) where
-  -- the session that a reset hands back
-  pub restarted : check_of s.sheet ≡ accepted → begun s.sheet ≡ restart (check_of s.sheet) s
+  pub restarted : check_of s.sheet ≡ accepted → Restarts s (begun s.sheet) (Ok tt)
   unfolding restart
-  restarted ok = rw ok refl
+  restarted ok = record { answer = sym ok; session = rw ok refl }
 
-  pub as_it_was : {n p : ℕ} → check_of s.sheet ≡ refused n p → s ≡ restart (check_of s.sheet) s
+  pub as_it_was : (r : Refusal) → check_of s.sheet ≡ refusal r → Restarts s s (Err r)
   unfolding restart
-  as_it_was e = rw e refl
+  as_it_was r e = record { answer = sym e; session = rw e refl }
 
   -- the number still running
-  pub runs_on : check_of s.sheet ≡ accepted → {all from : ℕ} → length (roll_in s) ≡ all → from ≡ min s.shown all → gives (all - from) ≡ running_of (check_of s.sheet) s
+  pub runs_on : {all from : ℕ} → check_of s.sheet ≡ accepted → length (roll_in s) ≡ all → from ≡ min s.shown all → gives (all - from) ≡ running_of (check_of s.sheet) s
   unfolding and_then
-  runs_on ok {all} {from} a f =
+  runs_on {all} {from} ok a f =
       let e : all - from ≡ length (rows_left s) = omega (arith, length-drop s.shown (roll_in s)) in
       rw ok (ap gives e)
 
-  pub not_running : {n p : ℕ} → check_of s.sheet ≡ refused n p → refused n p ≡ running_of (check_of s.sheet) s
-  not_running e = sym (ending.said_refused (gives (length (rows_left s))) e)
+  pub not_running : (r : Refusal) → check_of s.sheet ≡ refusal r → refusal r ≡ running_of (check_of s.sheet) s
+  not_running r e = sym (ending.said_refused (gives (length (rows_left s))) e)

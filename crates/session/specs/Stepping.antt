@@ -1,16 +1,16 @@
 -- What the calls on a stepping session give and hand back (SHEETS 7, 3.8 to 3.10).
-use Rattle.std.specs.Prelude.{◌≡◌, List, ℕ, ◌+◌, ◌*◌, min, length, take, drop}
+use Rattle.std.specs.Prelude.{◌≡◌, List, ℕ, ◌+◌, ◌*◌, min, length, take, drop, Result, Ok, Err}
 use Rattle.sheet.specs.declared.Sheet.{Sheet}
+use Rattle.sheet.specs.declared.Refusal.{Refusal}
 use Rattle.sheet.specs.Lent.{and_then, or_short, after}
-use Rattle.sheet.specs.Returned.{Returned, accepted, gives, refused, verdict}
+use Rattle.sheet.specs.Returned.{Returned, accepted, gives, refused, refusal, verdict}
 use Rattle.sheet.specs.HandedIn.{handed_in, check_of}
 use Rattle.rule.specs.declared.Row.{Row}
 use Rattle.rule.specs.RowBytes.{roll_bytes, row_width}
 use Rattle.rule.specs.Selection.{roll_of}
 use Rattle.sheet.specs.Answer.{answered}
 use Rattle.session.specs.declared.Session.{Session}
-use Rattle.session.specs.declared.Advanced.{Advanced}
-use Rattle.session.specs.declared.Begun.{Begun}
+use Rattle.session.specs.declared.Unopened.{Unopened}
 
 -- the one roll of a session's sheet (SHEETS 5.5, 7.1)
 abbrev pub roll_in : Session → List Row
@@ -34,16 +34,21 @@ shown_in s = min s.shown (length (roll_in s))
 abbrev pub begun : Sheet → Session
 begun sheet = record { sheet = sheet; shown = 0 }
 
--- reset (SHEETS 7.3); a refused call hands back the very session (SHEETS 7.6)
+-- what opening gives: the verdict on the sheet (SHEETS 7.5), and the session handed out, beside a refusal too (SHEETS 7.8)
+abbrev pub Begins : Returned → Session → Result Session Unopened → Type 0
+Begins v s (Ok t) = (v ≡ accepted) × (t ≡ s)
+Begins v s (Err u) = (v ≡ refusal u.refusal) × (u.session ≡ s)
+
+-- reset (SHEETS 7.3); a refused call leaves the very session (SHEETS 7.6)
 unfoldable pub restart : Returned → Session → Session
 restart accepted s = begun s.sheet
 restart (gives n) s = begun s.sheet
 restart (refused n p) s = s
 
--- what opening and reset give: the verdict on the sheet (SHEETS 7.5), and the session handed out
-pub record Begins (v : Returned) (s : Session) (r : Begun) : Type 0 where
-  pub answer : verdict r.answer ≡ v
-  pub session : r.session ≡ s
+-- what reset gives: the verdict on the sheet (SHEETS 7.5), and the session after it
+pub record Restarts (s t : Session) (r : Result (Unit {0}) Refusal) : Type 0 where
+  pub answer : verdict r ≡ check_of s.sheet
+  pub session : t ≡ restart (check_of s.sheet) s
 
 -- ---- advance
 
@@ -51,7 +56,7 @@ pub record Begins (v : Returned) (s : Session) (r : Begun) : Type 0 where
 abbrev pub advance_returns : Returned → List Row → ℕ → Returned
 advance_returns v rows lent = and_then v (or_short (row_width * length rows) lent (length rows))
 
--- past the rows that were written (SHEETS 7.2, 7.6); a refused call hands back the very session
+-- past the rows that were written (SHEETS 7.2, 7.6); a refused call leaves the very session
 unfoldable pub advance_session : Returned → Session → Session
 advance_session accepted s = s
 advance_session (gives k) s = record { sheet = s.sheet; shown = shown_in s + k }
@@ -61,10 +66,10 @@ advance_session (refused n p) s = s
 abbrev pub advance_of : Session → ℕ → ℕ → Returned
 advance_of s n lent = advance_returns (check_of s.sheet) (next_rows s n) lent
 
--- the answer, the session handed back and the buffer's contents at exit (SHEETS 7.2, 7.6, 3.10)
-pub record Advances (s : Session) (n : ℕ) (before exit : List ℕ) (r : Advanced) : Type 0 where
-  pub answer : answered r.answer ≡ advance_of s n (length before)
-  pub session : r.session ≡ advance_session (advance_of s n (length before)) s
+-- the answer, the session and the buffer's contents after the call (SHEETS 7.2, 7.6, 3.10)
+pub record Advances (s : Session) (n : ℕ) (before : List ℕ) (t : Session) (exit : List ℕ) (r : Result ℕ Refusal) : Type 0 where
+  pub answer : answered r ≡ advance_of s n (length before)
+  pub session : t ≡ advance_session (advance_of s n (length before)) s
   pub buffer : exit ≡ after (advance_of s n (length before)) (roll_bytes (next_rows s n)) before
 
 -- ---- the number still running

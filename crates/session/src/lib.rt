@@ -2,15 +2,15 @@
 // Anyone can make one with any contents, so every call judges its sheet again.
 #![tactic(auto)]
 
-ghost use Rattle.std.specs.Prelude.{◌≡◌, min};
-ghost use Rattle.sheet.specs.Returned.{verdict};
+ghost use Rattle.std.specs.Prelude.{◌≡◌};
 ghost use Rattle.sheet.specs.Scan.{verdict_of};
 ghost use Rattle.sheet.specs.HandedIn.{check_of, sheet_of};
 ghost use Rattle.sheet_reader.specs.Reading.{records_of};
 ghost use Rattle.sheet.specs.Answer.{answered};
-ghost use Rattle.session.specs.Stepping.{begun, restart, Begins, Advances, running_of};
+ghost use Rattle.session.specs.Stepping.{begun, Begins, Restarts, Advances, running_of};
 
-use sheet::{Answer, OUTPUT_TOO_SHORT, Sheet, Verdict};
+use sheet::{Refusal, Sheet};
+use source::Source;
 
 #[derive(Clone, Copy)]
 pub struct Session {
@@ -18,124 +18,79 @@ pub struct Session {
     pub shown: usize,
 }
 
-// The session handed back, and the number of rows written or the table's number with its place or length.
+// Why a sheet is not opened, and the session that is handed out all the same (SHEETS 7.8).
 #[derive(Clone, Copy)]
-pub struct Advanced {
+pub struct Unopened {
+    pub refusal: Refusal,
     pub session: Session,
-    pub answer: Answer,
 }
 
-// The session handed out, and whether its sheet is accepted or the table's number with its place.
-#[derive(Clone, Copy)]
-pub struct Begun {
-    pub session: Session,
-    pub answer: Verdict,
-}
+// So that a caller who needs the refusal alone writes `Session::open(s)?`.
+impl From<Unopened> for Refusal {
+    ghost from_gives = { λ unopened refusal. refusal ≡ unopened.refusal };
 
-fn least(a: usize, b: usize) -> usize
-    ensures { result ≡ min a b }
-{
-    if a < b { a } else { b }
+    fn from(unopened: Unopened) -> Refusal {
+        unopened.refusal
+    }
 }
 
 // A session with no row shown.
-fn begin(sheet: Sheet, answer: Verdict) -> Begun
-    ensures { Begins (verdict answer) (begun sheet) result }
+fn begin(sheet: Sheet) -> Session
+    ensures { result ≡ begun sheet }
 {
-    Begun {
-        session: Session { sheet, shown: 0 },
-        answer,
-    }
+    Session { sheet, shown: 0 }
 }
 
+// `open` and `open_records` stay two: each promises its very sheet, what stands behind the records included.
 impl Session {
     // Over the records of a sheet's bytes, with no row shown. A refused sheet comes with no records.
-    pub fn open(s: &[u8]) -> Begun
+    pub fn open(s: &[u8]) -> Result<Session, Unopened>
         ensures { Begins (verdict_of s.now) (begun (sheet_of (records_of s.now))) result }
     {
-        let r = sheet_reader::read(s);
-        let sheet = r.sheet;
-        let answer = r.verdict;
-        begin(sheet, answer)
+        match sheet_reader::read(s) {
+            Ok(sheet) => Ok(begin(sheet)),
+            Err(refusal) => {
+                let session = begin(sheet_reader::blank());
+                Err(Unopened { refusal, session })
+            }
+        }
     }
 
     // Over records handed in, with no row shown.
-    pub fn open_records(sheet: Sheet) -> Begun
+    pub fn open_records(sheet: Sheet) -> Result<Session, Unopened>
         ensures { Begins (check_of sheet) (begun sheet) result }
     {
-        let verdict = sheet_writer::check(sheet);
-        begin(sheet, verdict)
-    }
-
-    // Advance by n (SHEETS 7.2). `shown + n` may exceed the machine's word: it is never computed.
-    pub fn advance(self, n: usize, out: &mut [u8]) -> Advanced
-        ensures { Advances self n out.old out.new result }
-    {
-        let sheet = self.sheet;
-        let mut roll = [0u8; row::LONGEST_ROLL];
-        let rolled = plain_run::plain_roll(sheet, &mut roll);
-        match rolled {
-            Answer::Refused(_, _) => Advanced {
-                session: self,
-                answer: rolled,
-            },
-            Answer::Gives(all) => {
-                let from = least(self.shown, all);
-                let left = all - from;
-                let k = least(n, left);
-                let needed = row::WIDTH * k;
-                if out.len() < needed {
-                    return Advanced {
-                        session: self,
-                        answer: Answer::Refused(OUTPUT_TOO_SHORT, needed),
-                    };
-                }
-                let start = row::WIDTH * from;
-                let end = start + needed;
-                let part = &roll[start..end];
-                out[..needed].copy_from_slice(part);
-                let shown = from + k;
-                let session = Session { sheet, shown };
-                Advanced {
-                    session,
-                    answer: Answer::Gives(k),
-                }
-            }
+        let session = begin(sheet);
+        match sheet_writer::check(sheet) {
+            Ok(_) => Ok(session),
+            Err(refusal) => Err(Unopened { refusal, session }),
         }
     }
 
-    // No row is shown any more (SHEETS 7.3).
-    pub fn reset(self) -> Begun
-        ensures { Begins (check_of self.sheet) (restart (check_of self.sheet) self) result }
+    // Advance by n (SHEETS 7.2). A refused call leaves the session and `out` as they were.
+    pub fn advance(&mut self, n: usize, out: &mut [u8]) -> Result<usize, Refusal>
+        ensures { Advances self.old n out.old self.new out.new result }
     {
-        let sheet = self.sheet;
-        let answer = sheet_writer::check(sheet);
-        match answer {
-            Verdict::Refused(_, _) => Begun {
-                session: self,
-                answer,
-            },
-            Verdict::Accepted => {
-                let session = Session { sheet, shown: 0 };
-                Begun { session, answer }
-            }
-        }
+        let sheet = self.sheet.accept()?;
+        let step = roll_steps::advance(sheet, self.shown, n, out)?;
+        self.shown = step.shown;
+        Ok(step.count)
+    }
+
+    // No row is shown any more (SHEETS 7.3). A refused call leaves the session as it was.
+    pub fn reset(&mut self) -> Result<(), Refusal>
+        ensures { Restarts self.old self.new result }
+    {
+        sheet_writer::check(self.sheet)?;
+        self.shown = 0;
+        Ok(())
     }
 
     // The number of tracks still running: the rows not yet shown (SHEETS 7.4).
-    pub fn running(self) -> Answer
-        ensures { answered result ≡ running_of (check_of self.sheet) self }
+    pub fn running(&self) -> Result<usize, Refusal>
+        ensures { answered result ≡ running_of (check_of self.now.sheet) self.now }
     {
-        let sheet = self.sheet;
-        let v = sheet_writer::check(sheet);
-        match v {
-            Verdict::Refused(number, place) => Answer::Refused(number, place),
-            Verdict::Accepted => {
-                let all = sheet.ntracks;
-                let past = least(self.shown, all);
-                let left = all - past;
-                Answer::Gives(left)
-            }
-        }
+        let all = self.sheet.accept()?.ntracks;
+        Ok(all - self.shown.min(all))
     }
 }

@@ -1,9 +1,9 @@
 -- Whole files: their lengths (`main_length`, `index_length`), what is stored (`main_put`, `index_put`) and what is returned (`short_so`, `long_so`).
-use Prim.Native.Nat.{ℕ, zero, suc, ◌≤◌, ◌<◌, ◌+◌, ◌*◌}
+use Prim.Native.Nat.{ℕ, ◌≤◌, ◌<◌, ◌+◌, ◌*◌, ◌/◌}
 use mathlib.Core.Path.{subst, ◌≡◌, refl, ap, ◌∙◌}
 use mathlib.Core.List.{List, [], ◌∷◌, ◌++◌}
 use native.Mathlib.Omega.{arith}
-use lib.ListN.{length, take, length-append}
+use lib.ListN.{length, length-append}
 use lib.Seq.{sets}
 use Rattle.byte_order.proofs.Stores.{sets_front}
 use Rattle.byte_order.proofs.Orders.{be_length}
@@ -12,35 +12,34 @@ use Rattle.doubles.specs.Doubles.{double_bits}
 use Rattle.shapefile.specs.Extent.{Extent, extent}
 use Rattle.shapefile.specs.Layout.{words, header}
 use Rattle.shapefile.specs.Figures.{Figure, content, extent_bytes, points_of}
-use Rattle.shape_records.specs.Shapes.{bounds_of, bounds_bytes, NarrowExtent}
-use Rattle.shape_records.specs.declared.Bounds.{Bounds}
 use Rattle.shapefile.proofs.Lengths.{box_length, header-length}
 use Rattle.shape_records.proofs.Contents.{bounds_is}
 use Rattle.shapefile.specs.declared.Layer.{Layer}
 use Rattle.shapefile.specs.declared.Passage.{Passage}
-use Rattle.sheet.specs.declared.Answer.TheVariants.{Gives, Refused}
 use Rattle.sheet.proofs.Lent as ending
-use Rattle.sheet.specs.declared.Answer.{Answer}
-use Rattle.sheet.specs.Returned.{Returned, accepted}
+use Rattle.std.specs.Prelude.{Result, Ok, Err}
+use Rattle.sheet.specs.declared.Refusal.{Refusal}
+use Rattle.sheet.specs.Returned.{Returned, accepted, refused, refusal}
 use Rattle.shapefile.specs.declared.Part.{Part}
 use Rattle.shapefile.specs.declared.Part.TheVariants.{Main, Index}
-use Rattle.shapefile.specs.Files.{records_from, entries_from, main_file, index_file, type_of, figures, file_of}
-use Rattle.shape_files.specs.Exported.{Exports}
+use Rattle.shapefile.specs.Files.{records_from, entries_from, main_file, index_file, type_of, figure, figures, file_of}
+use Rattle.std.proofs.lemmas.List.{length-map}
+use Rattle.shape_files.specs.Exported.{Begun, Exports}
 
 -- ---- what is returned
 
 module _ (file before : List ℕ) {k : ℕ} (e : length file ≡ k) where
-  pub short_so : length before < k → Exports accepted file before before (Refused 12 k)
-  short_so h = let (a, b) = ending.too_short {v = accepted} file before (length file) refl e h in record { answer = a; buffer = b }
+  pub short_so : {r : Refusal} → length before < k → refusal r ≡ refused 12 k → Exports accepted file before before (Err r)
+  short_so {r} h q = let (a, b) = ending.too_short {v = accepted} file before (length file) refl e h in record { answer = q ∙ a; buffer = b }
 
-  pub long_so : {exit : List ℕ} → k ≤ length before → exit ≡ sets before 0 file → Exports accepted file before exit (Gives k)
+  pub long_so : {exit : List ℕ} → k ≤ length before → exit ≡ sets before 0 file → Exports accepted file before exit (Ok k)
   long_so h p =
       let room : length file ≤ length before = omega arith in
       let (a, b) = ending.stored {v = accepted} file before (length file) refl e room (p ∙ sets_front before file room) in
       record { answer = a; buffer = b }
 
 -- of a file that is the same
-pub of_same : {v : Returned} {file other before exit : List ℕ} {r : Answer} → file ≡ other → Exports v file before exit r → Exports v other before exit r
+pub of_same : {v : Returned} {file other before exit : List ℕ} {r : Result ℕ Refusal} → file ≡ other → Exports v file before exit r → Exports v other before exit r
 of_same {v} {before = before} {exit} {r} e h = subst (λ (z : List ℕ). Exports v z before exit r) e h
 
 pub the_main : {part : Part} (layer : Layer) (l : List Passage) → part ≡ Main → main_file (type_of layer) (figures layer l) ≡ file_of layer part l
@@ -72,31 +71,29 @@ entries_length k (f ∷ l) =
     let e = entries_length (k + (4 + words (content f))) l in
     simp (length-append, be_length, e) (omega arith)
 
-pub figures-length : (k : Layer) (n : ℕ) (l : List Passage) → n ≤ length l → length (figures k (take n l)) ≡ n
+pub figures-length : (k : Layer) (l : List Passage) → length (figures k l) ≡ length l
 unfolding figures
-figures-length k zero l h = refl
-figures-length k (suc n) [] h = absurd (omega arith)
-figures-length k (suc n) (p ∷ l) h = ap suc (figures-length k n l (omega arith))
+figures-length k l = length-map l (figure k)
 
 pub index_length : (t : ℕ) (l : List Figure) → length (index_file t l) ≡ 100 + 8 * length l
 unfolding index_file
 index_length t l = length-append (header t (50 + 4 * length l) (extent_bytes (extent (points_of l)))) (entries_from 50 l) ∙ rw (head_length t l (50 + 4 * length l), entries_length 50 l) refl
 
-pub index_size : (k : Layer) (n : ℕ) (l : List Passage) → n ≤ length l → length (index_file (type_of k) (figures k (take n l))) ≡ 100 + 8 * n
-index_size k n l h = omega (arith, index_length (type_of k) (figures k (take n l)), figures-length k n l h)
+pub index_size : (k : Layer) (l : List Passage) → length (index_file (type_of k) (figures k l)) ≡ 100 + 8 * length l
+index_size k l = omega (arith, index_length (type_of k) (figures k l), figures-length k l)
 
 -- ---- what is stored: the header w words on, and the rest behind it
 
-module _ (s : List ℕ) (t w : ℕ) (l : List Figure) {b : Bounds} (e : b ≡ bounds_of (extent (points_of l))) (h : NarrowExtent (extent (points_of l))) {m n : List ℕ} (p : m ≡ sets s 0 (header t w (bounds_bytes b))) where
-  behind : (r : List ℕ) → n ≡ sets m 100 r → n ≡ sets s 0 (header t w (extent_bytes (extent (points_of l))) ++ r)
+module _ {k : Layer} {ps : List Passage} {total : ℕ} {s m n : List ℕ} (g : Begun k ps total s m) where
+  behind : (r : List ℕ) → n ≡ sets m 100 r → n ≡ sets s 0 (header (type_of k) (total / 2) (extent_bytes (extent (points_of (figures k ps)))) ++ r)
   behind r q =
-      let x = extent (points_of l) in
-      two s 0 (header t w (extent_bytes x)) r (rw (e, bounds_is x h) at p) q (rw (head_length t l w) refl)
+      let x = extent (points_of (figures k ps)) in
+      two s 0 (header (type_of k) (total / 2) (extent_bytes x)) r (rw (bounds_is x g.narrow) at g.stored) q (rw (head_length (type_of k) (figures k ps) (total / 2)) refl)
 
-  pub main_put : w ≡ 50 + words (records_from 1 l) → n ≡ sets m 100 (records_from 1 l) → n ≡ sets s 0 (main_file t l)
+  pub main_put : total / 2 ≡ 50 + words (records_from 1 (figures k ps)) → n ≡ sets m 100 (records_from 1 (figures k ps)) → n ≡ sets s 0 (main_file (type_of k) (figures k ps))
   unfolding main_file
-  main_put g q = rw (← g) (behind (records_from 1 l) q)
+  main_put e q = rw (← e) (behind (records_from 1 (figures k ps)) q)
 
-  pub index_put : w ≡ 50 + 4 * length l → n ≡ sets m 100 (entries_from 50 l) → n ≡ sets s 0 (index_file t l)
+  pub index_put : total / 2 ≡ 50 + 4 * length (figures k ps) → n ≡ sets m 100 (entries_from 50 (figures k ps)) → n ≡ sets s 0 (index_file (type_of k) (figures k ps))
   unfolding index_file
-  index_put g q = rw (← g) (behind (entries_from 50 l) q)
+  index_put e q = rw (← e) (behind (entries_from 50 (figures k ps)) q)

@@ -1,7 +1,7 @@
 // The files of a layer, from the tips' ways in 64ths (SHEETS 12).
 #![tactic(auto)]
 
-ghost use Rattle.std.specs.Prelude.{◌≡◌, ◌++◌, ◌+◌, ◌*◌, ◌≤◌, ◌<◌, length, take};
+ghost use Rattle.std.specs.Prelude.{◌≡◌, ◌++◌, ◌+◌, ◌*◌, ◌≤◌, ◌<◌, length, MatchResult};
 ghost use Rattle.std.proofs.lemmas.List.Edits.{sets};
 ghost use Rattle.shapefile.specs.Extent.{extent};
 ghost use Rattle.shapefile.specs.Layout.{big, little, header};
@@ -9,14 +9,14 @@ ghost use Rattle.shapefile.specs.Figures.{points_of};
 ghost use Rattle.shapefile.specs.Files.{records_from, entries_from, main_file, index_file, type_of, figure, figures, file_of};
 ghost use Rattle.shape_records.specs.Shapes.{in_doubles, bounds_of, bounds_bytes, BoundsSound, NarrowFigure, NarrowExtent};
 ghost use Rattle.shape_files.specs.Boxing.{inverted, closed};
-ghost use Rattle.shape_files.specs.Exported.{Exports};
-ghost use Rattle.sheet.specs.Returned.{accepted};
+ghost use Rattle.shape_files.specs.Exported.{Begun, Exports};
+ghost use Rattle.sheet.specs.Returned.{accepted, refused, refusal};
 ghost use Rattle.byte_order.specs.Bytes.{le_bytes};
 
 use byte_order::Order;
-use shape_records::{Bounds, INTEGER, POINT, POLYLINE, RECORD_HEADER, Shape};
+use shape_records::{Bounds, INTEGER, POINT, POLYLINE, Point, RECORD_HEADER, Shape};
 use shapefile::{Layer, Part, Passage};
-use sheet::{Answer, OUTPUT_TOO_SHORT};
+use sheet::{Refusal, RefusalKind};
 
 // The bytes of a header, and where its fields stand (SHEETS 12.2).
 pub const HEADER: usize = 100;
@@ -53,14 +53,18 @@ const HEADER_WORDS: usize = HEADER / WORD;
 fn shape_of(layer: Layer, p: Passage) -> Shape
     ensures { (result ≡ in_doubles (figure layer p)) × NarrowFigure (figure layer p) }
 {
-    let u = doubles::double_of(p.u);
-    let v = doubles::double_of(p.v);
+    let to = Point {
+        x: doubles::double_of(p.u),
+        y: doubles::double_of(p.v),
+    };
     match layer {
-        Layer::Ends => Shape::End(u, v),
+        Layer::Ends => Shape::End(to),
         Layer::Traces => {
-            let x = doubles::double_of(p.x);
-            let y = doubles::double_of(p.y);
-            Shape::Trace(x, y, u, v)
+            let from = Point {
+                x: doubles::double_of(p.x),
+                y: doubles::double_of(p.y),
+            };
+            Shape::Trace(from, to)
         }
     }
 }
@@ -106,33 +110,24 @@ fn closed_bounds(b: Bounds) -> Bounds
 }
 
 // The box of a file (SHEETS 12.6).
-fn bounds_of(layer: Layer, passages: [Passage; 256], n: usize) -> Bounds
-    requires { n ≤ 256 }
-    ensures { (result ≡ bounds_of (extent (points_of (figures layer (take n passages))))) × NarrowExtent (extent (points_of (figures layer (take n passages)))) }
+fn bounds_of(layer: Layer, passages: &[Passage]) -> Bounds
+    ensures { (result ≡ bounds_of (extent (points_of (figures layer passages.now)))) × NarrowExtent (extent (points_of (figures layer passages.now))) }
 {
     let mut b = no_bounds();
-    let mut i: usize = 0;
-    while i < n {
-        let p = passages[i];
-        let s = shape_of(layer, p);
-        b = shape_records::widened(b, s);
-        i += 1;
+    for p in passages {
+        b = shape_records::widened(b, shape_of(layer, *p));
     }
     closed_bounds(b)
 }
 
 // The bytes of all records.
-fn size_of(layer: Layer, passages: [Passage; 256], n: usize) -> usize
-    requires { n ≤ 256 }
-    ensures { (result ≡ length (records_from 1 (figures layer (take n passages)))) × (result ≤ 22528) }
+fn size_of(layer: Layer, passages: &[Passage]) -> usize
+    requires { length passages.now ≤ 256 }
+    ensures { (result ≡ length (records_from 1 (figures layer passages.now))) × (result ≤ 22528) }
 {
     let mut total: usize = 0;
-    let mut i: usize = 0;
-    while i < n {
-        let p = passages[i];
-        let s = shape_of(layer, p);
-        total += shape_records::record_size(s);
-        i += 1;
+    for p in passages {
+        total += shape_records::record_size(shape_of(layer, *p));
     }
     total
 }
@@ -159,36 +154,46 @@ fn put_header(out: &mut [u8], words: u64, code: u64, b: Bounds)
     byte_order::put_in(Order::LowFirst, out, RANGES, RANGES_BYTES, 0);
 }
 
+// The header of a file of `total` bytes, or 12.
+fn begin(layer: Layer, passages: &[Passage], total: usize, out: &mut [u8]) -> Result<(), Refusal>
+    requires { 100 ≤ total }
+    ensures { MatchResult result (λ _. (total ≤ length out.old) × Begun layer passages.now total out.old out.new) (λ r. (length out.old < total) × (refusal r ≡ refused 12 total) × (out.new ≡ out.old)) }
+{
+    if out.len() < total {
+        return Err(Refusal {
+            kind: RefusalKind::OutputTooShort,
+            place: total,
+        });
+    }
+    put_header(
+        out,
+        (total / WORD) as u64,
+        code_of(layer),
+        bounds_of(layer, passages),
+    );
+    Ok(())
+}
+
 // The records, numbered from 1 (SHEETS 12.3).
-fn put_records(out: &mut [u8], layer: Layer, passages: [Passage; 256], n: usize)
-    requires { (n ≤ 256) × (100 + length (records_from 1 (figures layer (take n passages))) ≤ length out.old) }
-    ensures { out.new ≡ sets out.old 100 (records_from 1 (figures layer (take n passages))) }
+fn put_records(out: &mut [u8], layer: Layer, passages: &[Passage])
+    requires { (length passages.now ≤ 256) × (100 + length (records_from 1 (figures layer passages.now)) ≤ length out.old) }
+    ensures { out.new ≡ sets out.old 100 (records_from 1 (figures layer passages.now)) }
 {
     let mut at = HEADER;
-    let mut i: usize = 0;
-    while i < n {
-        let p = passages[i];
-        let s = shape_of(layer, p);
-        at = shape_records::put_record(out, at, i as u64 + 1, s);
-        i += 1;
+    for (i, p) in passages.iter().enumerate() {
+        at = shape_records::put_record(out, at, i as u64 + 1, shape_of(layer, *p));
     }
 }
 
 // The main file.
-fn main_file(layer: Layer, passages: [Passage; 256], n: usize, out: &mut [u8]) -> Answer
-    requires { n ≤ 256 }
-    ensures { Exports accepted (main_file (type_of layer) (figures layer (take n passages))) out.old out.new result }
+fn main_file(layer: Layer, passages: &[Passage], out: &mut [u8]) -> Result<usize, Refusal>
+    requires { length passages.now ≤ 256 }
+    ensures { Exports accepted (main_file (type_of layer) (figures layer passages.now)) out.old out.new result }
 {
-    let size = size_of(layer, passages, n);
-    let total = HEADER + size;
-    if out.len() < total {
-        return Answer::Refused(OUTPUT_TOO_SHORT, total);
-    }
-    let b = bounds_of(layer, passages, n);
-    let code = code_of(layer);
-    put_header(out, (total / WORD) as u64, code, b);
-    put_records(out, layer, passages, n);
-    Answer::Gives(total)
+    let total = HEADER + size_of(layer, passages);
+    begin(layer, passages, total, out)?;
+    put_records(out, layer, passages);
+    Ok(total)
 }
 
 // Where a record begins, and the length of its contents, in words (SHEETS 12.7).
@@ -201,16 +206,13 @@ fn put_entry(out: &mut [u8], at: usize, offset: u64, words: u64)
 }
 
 // An entry for each record.
-fn put_entries(out: &mut [u8], layer: Layer, passages: [Passage; 256], n: usize)
-    requires { (n ≤ 256) × (100 + 8 * n ≤ length out.old) }
-    ensures { out.new ≡ sets out.old 100 (entries_from 50 (figures layer (take n passages))) }
+fn put_entries(out: &mut [u8], layer: Layer, passages: &[Passage])
+    requires { (length passages.now ≤ 256) × (100 + 8 * length passages.now ≤ length out.old) }
+    ensures { out.new ≡ sets out.old 100 (entries_from 50 (figures layer passages.now)) }
 {
     let mut offset = HEADER_WORDS;
-    let mut i: usize = 0;
-    while i < n {
-        let p = passages[i];
-        let s = shape_of(layer, p);
-        let size = shape_records::record_size(s);
+    for (i, p) in passages.iter().enumerate() {
+        let size = shape_records::record_size(shape_of(layer, *p));
         put_entry(
             out,
             HEADER + ENTRY * i,
@@ -218,33 +220,32 @@ fn put_entries(out: &mut [u8], layer: Layer, passages: [Passage; 256], n: usize)
             ((size - RECORD_HEADER) / WORD) as u64,
         );
         offset += size / WORD;
-        i += 1;
     }
 }
 
 // The index file.
-fn index_file(layer: Layer, passages: [Passage; 256], n: usize, out: &mut [u8]) -> Answer
-    requires { n ≤ 256 }
-    ensures { Exports accepted (index_file (type_of layer) (figures layer (take n passages))) out.old out.new result }
+fn index_file(layer: Layer, passages: &[Passage], out: &mut [u8]) -> Result<usize, Refusal>
+    requires { length passages.now ≤ 256 }
+    ensures { Exports accepted (index_file (type_of layer) (figures layer passages.now)) out.old out.new result }
 {
-    let total = HEADER + ENTRY * n;
-    if out.len() < total {
-        return Answer::Refused(OUTPUT_TOO_SHORT, total);
-    }
-    let b = bounds_of(layer, passages, n);
-    let code = code_of(layer);
-    put_header(out, (total / WORD) as u64, code, b);
-    put_entries(out, layer, passages, n);
-    Answer::Gives(total)
+    let total = HEADER + ENTRY * passages.len();
+    begin(layer, passages, total, out)?;
+    put_entries(out, layer, passages);
+    Ok(total)
 }
 
 // The file of a layer, or 12.
-pub fn write(layer: Layer, part: Part, passages: [Passage; 256], n: usize, out: &mut [u8]) -> Answer
-    requires { n ≤ 256 }
-    ensures { Exports accepted (file_of layer part (take n passages)) out.old out.new result }
+pub fn write(
+    layer: Layer,
+    part: Part,
+    passages: &[Passage],
+    out: &mut [u8],
+) -> Result<usize, Refusal>
+    requires { length passages.now ≤ 256 }
+    ensures { Exports accepted (file_of layer part passages.now) out.old out.new result }
 {
     match part {
-        Part::Main => main_file(layer, passages, n, out),
-        Part::Index => index_file(layer, passages, n, out),
+        Part::Main => main_file(layer, passages, out),
+        Part::Index => index_file(layer, passages, out),
     }
 }

@@ -10,7 +10,7 @@ use Rattle.doubles.specs.Doubles.{sixtyfourths}
 use Rattle.doubles.proofs.Compared.{lt_is, eq_is}
 use Rattle.shapefile.specs.Extent.{Extent, wider, widest, extent}
 use Rattle.shapefile.specs.Figures.{Figure, end, trace, nowhere, points}
-use Rattle.shape_records.specs.Shapes.{in_doubles, bounds_of, lesser, greater, around, still, widen, spanned, Narrow, NarrowExtent, NarrowFigure}
+use Rattle.shape_records.specs.Shapes.{point_of, in_doubles, bounds_of, lesser, greater, around, still, widen, spanned, Narrow, NarrowExtent, NarrowFigure}
 
 -- far within the 2 ^ 53 up to which doubles hold every 64th
 pub within : (n : ℕ) → Narrow n → n < 2 ^ 53
@@ -37,16 +37,16 @@ module _ (e : Extent) (h : NarrowExtent e) (x y : ℕ) (p : Narrow x) (q : Narro
   pub wider_exact : NarrowExtent (wider e (record { x = x; y = y }))
   wider_exact = record { left = omega arith; low = omega arith; right = omega arith; high = omega arith }
 
-  pub around_is : around (bounds_of e) (sixtyfourths x) (sixtyfourths y) ≡ bounds_of (wider e (record { x = x; y = y }))
+  pub around_is : around (bounds_of e) (point_of x y) ≡ bounds_of (wider e (record { x = x; y = y }))
   unfolding around bounds_of
   around_is =
       rw (lesser_is e.left x h.left p, lesser_is e.low y h.low q, greater_is e.right x h.right p, greater_is e.high y h.high q) refl
 
 module _ (x y u v : ℕ) (p : Narrow x) (q : Narrow y) (r : Narrow u) (s : Narrow v) where
-  pub still_is : still (sixtyfourths x) (sixtyfourths y) (sixtyfourths u) (sixtyfourths v) ≡ nowhere x y u v
+  pub still_is : still (point_of x y) (point_of u v) ≡ nowhere x y u v
   still_is = rw (eq_is x u (within x p) (within u r), eq_is y v (within y q) (within v s)) refl
 
-  pub spanned_is : spanned (sixtyfourths x) (sixtyfourths y) (sixtyfourths u) (sixtyfourths v) ≡ bounds_of (extent (record { x = x; y = y } ∷ record { x = u; y = v } ∷ []))
+  pub spanned_is : spanned (point_of x y) (point_of u v) ≡ bounds_of (extent (record { x = x; y = y } ∷ record { x = u; y = v } ∷ []))
   unfolding spanned extent
   spanned_is = (unfold bounds_of in around_is (record { left = x; low = y; right = x; high = y }) (record { left = p; low = q; right = p; high = q }) u v r s)
 
@@ -68,7 +68,7 @@ unfolding widen widest points NarrowFigure in_doubles
 widen_is e (end x y) h g = around_is e h x y g.0 g.1
 widen_is e (trace x y u v) h g = rw (still_is x y u v g.0.0 g.0.1 g.1.0 g.1.1) (go (nowhere x y u v))
   where
-    go : (t : Bool) → cond t (bounds_of e) (around (around (bounds_of e) (sixtyfourths x) (sixtyfourths y)) (sixtyfourths u) (sixtyfourths v))
+    go : (t : Bool) → cond t (bounds_of e) (around (around (bounds_of e) (point_of x y)) (point_of u v))
         ≡ bounds_of (widest e (cond t [] (record { x = x; y = y } ∷ record { x = u; y = v } ∷ [])))
     go true = refl
     go false =

@@ -9,11 +9,12 @@ use Rattle.doubles.specs.Doubles.{sixtyfourths, double_bits}
 use Rattle.doubles.proofs.Exactly.{no_nan}
 use Rattle.doubles.proofs.Pattern as pattern
 use Rattle.shape_records.specs.declared.Bounds.{Bounds}
+use Rattle.shape_records.specs.declared.Point.{Point}
 use Rattle.shape_records.specs.declared.Shape.TheVariants.{End, Trace}
 use Rattle.shapefile.specs.Extent.{Extent, extent}
 use Rattle.shapefile.specs.Layout.{null_content, line_content}
 use Rattle.shapefile.specs.Figures.{Figure, end, trace, nowhere, points, extent_bytes, content}
-use Rattle.shape_records.specs.Shapes.{in_doubles, bounds_of, number, bits, lesser, greater, around, still, spanned, bounds_bytes, content_of, BoundsSound, Sound, NarrowExtent, NarrowFigure}
+use Rattle.shape_records.specs.Shapes.{point_of, in_doubles, bounds_of, number, bits, lesser, greater, around, still, spanned, bounds_bytes, content_of, PointSound, BoundsSound, Sound, Narrow, NarrowExtent, NarrowFigure}
 use Rattle.shape_records.proofs.Boxes.{within, still_is, spanned_is, spanned_exact}
 use Rattle.shapefile.proofs.Lengths.{box_length, point_content_length, line_content_length}
 
@@ -25,10 +26,13 @@ pub extent_sound : (e : Extent) → NarrowExtent e → BoundsSound (bounds_of e)
 unfolding bounds_of
 extent_sound e h = record { left = no_nan e.left (within e.left h.left); low = no_nan e.low (within e.low h.low); right = no_nan e.right (within e.right h.right); high = no_nan e.high (within e.high h.high) }
 
+point_sound : (x y : ℕ) → Narrow x → Narrow y → PointSound (point_of x y)
+point_sound x y p q = record { x = no_nan x (within x p); y = no_nan y (within y q) }
+
 pub figure_sound : (f : Figure) → NarrowFigure f → Sound (in_doubles f)
 unfolding in_doubles Sound NarrowFigure
-figure_sound (end x y) h = (no_nan x (within x h.0), no_nan y (within y h.1))
-figure_sound (trace x y u v) h = ((no_nan x (within x h.0.0), no_nan y (within y h.0.1)), (no_nan u (within u h.1.0), no_nan v (within v h.1.1)))
+figure_sound (end x y) h = point_sound x y h.0 h.1
+figure_sound (trace x y u v) h = (point_sound x y h.0.0 h.0.1, point_sound u v h.1.0 h.1.1)
 
 -- of two numbers either is one
 lesser_sound : (a b : Float) → number a → number b → number (lesser a b)
@@ -47,9 +51,9 @@ greater_sound a b h g = go (lt a b)
     go true = g
     go false = h
 
-pub spanned_sound : (x y u v : Float) → number x → number y → number u → number v → BoundsSound (spanned x y u v)
+pub spanned_sound : (p q : Point) → PointSound p → PointSound q → BoundsSound (spanned p q)
 unfolding spanned around
-spanned_sound x y u v p q r s = record { left = lesser_sound x u p r; low = lesser_sound y v q s; right = greater_sound x u p r; high = greater_sound y v q s }
+spanned_sound p q h g = record { left = lesser_sound p.x q.x h.x g.x; low = lesser_sound p.y q.y h.y g.y; right = greater_sound p.x q.x h.x g.x; high = greater_sound p.y q.y h.y g.y }
 
 -- ---- contents
 
@@ -64,7 +68,7 @@ content_is (trace x y u v) h =
     rw (still_is x y u v h.0.0 h.0.1 h.1.0 h.1.1) (go (nowhere x y u v) refl)
   where
     go : (t : Bool) → nowhere x y u v ≡ t
-        → cond t null_content (line_content (bounds_bytes (spanned (sixtyfourths x) (sixtyfourths y) (sixtyfourths u) (sixtyfourths v))) (bits (sixtyfourths x)) (bits (sixtyfourths y)) (bits (sixtyfourths u)) (bits (sixtyfourths v)))
+        → cond t null_content (line_content (bounds_bytes (spanned (point_of x y) (point_of u v))) (bits (sixtyfourths x)) (bits (sixtyfourths y)) (bits (sixtyfourths u)) (bits (sixtyfourths v)))
         ≡ cond t null_content (line_content (extent_bytes (extent (points (trace x y u v)))) (double_bits x) (double_bits y) (double_bits u) (double_bits v))
     go true e = refl
     go false e =
@@ -77,18 +81,18 @@ pub bounds_length : (b : Bounds) → length (bounds_bytes b) ≡ 32
 unfolding bounds_bytes
 bounds_length b = box_length (bits b.left) (bits b.low) (bits b.right) (bits b.high)
 
-pub end_length : (x y : Float) → length (content_of (End x y)) ≡ 20
+pub end_length : (p : Point) → length (content_of (End p)) ≡ 20
 unfolding content_of
-end_length x y = point_content_length (bits x) (bits y)
+end_length p = point_content_length (bits p.x) (bits p.y)
 
 -- of a trace that goes nowhere, and of any other
-pub still-content : (x y u v : Float) → still x y u v ≡ true → content_of (Trace x y u v) ≡ null_content
+pub still-content : (p q : Point) → still p q ≡ true → content_of (Trace p q) ≡ null_content
 unfolding content_of
-still-content x y u v e = rw e refl
+still-content p q e = rw e refl
 
-pub line_content_lem : (x y u v : Float) → still x y u v ≡ false → content_of (Trace x y u v) ≡ line_content (bounds_bytes (spanned x y u v)) (bits x) (bits y) (bits u) (bits v)
+pub line_content_lem : (p q : Point) → still p q ≡ false → content_of (Trace p q) ≡ line_content (bounds_bytes (spanned p q)) (bits p.x) (bits p.y) (bits q.x) (bits q.y)
 unfolding content_of
-line_content_lem x y u v e = rw e refl
+line_content_lem p q e = rw e refl
 
-pub line_length : (x y u v : Float) → length (line_content (bounds_bytes (spanned x y u v)) (bits x) (bits y) (bits u) (bits v)) ≡ 80
-line_length x y u v = line_content_length (bounds_bytes (spanned x y u v)) (bits x) (bits y) (bits u) (bits v) (bounds_length (spanned x y u v))
+pub line_length : (p q : Point) → length (line_content (bounds_bytes (spanned p q)) (bits p.x) (bits p.y) (bits q.x) (bits q.y)) ≡ 80
+line_length p q = line_content_length (bounds_bytes (spanned p q)) (bits p.x) (bits p.y) (bits q.x) (bits q.y) (bounds_length (spanned p q))

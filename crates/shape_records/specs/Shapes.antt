@@ -6,15 +6,19 @@ use Rattle.doubles.specs.Doubles.{sixtyfourths}
 use Rattle.shape_records.specs.declared.Shape.{Shape}
 use Rattle.shape_records.specs.declared.Shape.TheVariants.{End, Trace}
 use Rattle.shape_records.specs.declared.Bounds.{Bounds}
+use Rattle.shape_records.specs.declared.Point.{Point}
 use Rattle.shapefile.specs.Extent.{Extent}
 use Rattle.shapefile.specs.Figures.{Figure, end, trace}
 use Rattle.shapefile.specs.Layout.{box_bytes, null_content, point_content, line_content}
 
 -- ---- whole 64ths as doubles
 
+abbrev pub point_of : ℕ → ℕ → Point
+point_of x y = record { x = sixtyfourths x; y = sixtyfourths y }
+
 unfoldable pub in_doubles : Figure → Shape
-in_doubles (end x y) = End (sixtyfourths x) (sixtyfourths y)
-in_doubles (trace x y u v) = Trace (sixtyfourths x) (sixtyfourths y) (sixtyfourths u) (sixtyfourths v)
+in_doubles (end x y) = End (point_of x y)
+in_doubles (trace x y u v) = Trace (point_of x y) (point_of u v)
 
 unfoldable pub bounds_of : Extent → Bounds
 bounds_of e =
@@ -53,34 +57,38 @@ lesser a b = cond (lt b a) b a
 unfoldable pub greater : Float → Float → Float
 greater a b = cond (lt a b) b a
 
-unfoldable pub around : Bounds → Float → Float → Bounds
-around b x y =
+unfoldable pub around : Bounds → Point → Bounds
+around b p =
     record {
-      left = lesser b.left x;
-      low = lesser b.low y;
-      right = greater b.right x;
-      high = greater b.high y;
+      left = lesser b.left p.x;
+      low = lesser b.low p.y;
+      right = greater b.right p.x;
+      high = greater b.high p.y;
     }
 
-abbrev pub still : Float → Float → Float → Float → Bool
-still x y u v = eq x u && eq y v
+abbrev pub still : Point → Point → Bool
+still p q = eq p.x q.x && eq p.y q.y
 
 unfoldable pub widen : Bounds → Shape → Bounds
-widen b (End x y) = around b x y
-widen b (Trace x y u v) = cond (still x y u v) b (around (around b x y) u v)
+widen b (End p) = around b p
+widen b (Trace p q) = cond (still p q) b (around (around b p) q)
 
 unfoldable pub bounds_bytes : Bounds → List ℕ
 bounds_bytes b = box_bytes (bits b.left) (bits b.low) (bits b.right) (bits b.high)
 
 -- the box of two points
-unfoldable pub spanned : Float → Float → Float → Float → Bounds
-spanned x y u v = around (record { left = x; low = y; right = x; high = y }) u v
+unfoldable pub spanned : Point → Point → Bounds
+spanned p q = around (record { left = p.x; low = p.y; right = p.x; high = p.y }) q
 
 unfoldable pub content_of : Shape → List ℕ
-content_of (End x y) = point_content (bits x) (bits y)
-content_of (Trace x y u v) = cond (still x y u v) null_content (line_content (bounds_bytes (spanned x y u v)) (bits x) (bits y) (bits u) (bits v))
+content_of (End p) = point_content (bits p.x) (bits p.y)
+content_of (Trace p q) = cond (still p q) null_content (line_content (bounds_bytes (spanned p q)) (bits p.x) (bits p.y) (bits q.x) (bits q.y))
 
 -- no part is a NaN
+pub record PointSound (p : Point) : Type 0 where
+  pub x : number p.x
+  pub y : number p.y
+
 pub record BoundsSound (b : Bounds) : Type 0 where
   pub left : number b.left
   pub low : number b.low
@@ -88,5 +96,5 @@ pub record BoundsSound (b : Bounds) : Type 0 where
   pub high : number b.high
 
 unfoldable pub Sound : Shape → Type 0
-Sound (End x y) = number x × number y
-Sound (Trace x y u v) = (number x × number y) × (number u × number v)
+Sound (End p) = PointSound p
+Sound (Trace p q) = PointSound p × PointSound q

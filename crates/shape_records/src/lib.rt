@@ -4,7 +4,7 @@
 ghost use Rattle.std.specs.Prelude.{◌≡◌, ◌++◌, ◌+◌, ◌≤◌, ◌<◌, length};
 ghost use Rattle.std.proofs.lemmas.List.Edits.{sets};
 ghost use Rattle.shapefile.specs.Layout.{record_bytes, point_bytes, point_content, line_content, big, little};
-ghost use Rattle.shape_records.specs.Shapes.{number, bits, lesser, greater, around, still, widen, bounds_bytes, spanned, content_of, BoundsSound, Sound};
+ghost use Rattle.shape_records.specs.Shapes.{bits, lesser, greater, around, still, widen, bounds_bytes, spanned, content_of, PointSound, BoundsSound, Sound};
 
 use byte_order::Order;
 use doubles::WIDTH;
@@ -26,7 +26,7 @@ pub const RECORD_HEADER: usize = 8;
 
 const NUMBERED: usize = RECORD_HEADER + INTEGER;
 
-// Shape types.
+// Shape types, as numbers: each goes into the file, and none is asked for again, so that an enum would be no plainer.
 const NULL: u64 = 0;
 
 pub const POINT: u64 = 1;
@@ -55,11 +55,17 @@ const END_WORDS: u64 = 10;
 
 const TRACE_WORDS: u64 = 40;
 
+#[derive(Clone, Copy)]
+pub struct Point {
+    pub x: f64,
+    pub y: f64,
+}
+
 // An end at a point (SHEETS 12.4), or a trace from one point to another (SHEETS 12.5).
 #[derive(Clone, Copy)]
 pub enum Shape {
-    End(f64, f64),
-    Trace(f64, f64, f64, f64),
+    End(Point),
+    Trace(Point, Point),
 }
 
 // The box (SHEETS 12.6): least x, least y, greatest x, greatest y.
@@ -71,6 +77,7 @@ pub struct Bounds {
     pub high: f64,
 }
 
+// Not std's `min` and `max`: they take a NaN and two zeros by rules of their own, where one comparison decides here.
 fn lesser_of(a: f64, b: f64) -> f64
     ensures { result ≡ lesser a b }
 {
@@ -84,26 +91,22 @@ fn greater_of(a: f64, b: f64) -> f64
 }
 
 // The box that takes in a point too.
-fn widened_to(b: Bounds, x: f64, y: f64) -> Bounds
-    ensures { result ≡ around b x y }
+fn widened_to(b: Bounds, p: Point) -> Bounds
+    ensures { result ≡ around b p }
 {
-    let left = lesser_of(b.left, x);
-    let low = lesser_of(b.low, y);
-    let right = greater_of(b.right, x);
-    let high = greater_of(b.high, y);
     Bounds {
-        left,
-        low,
-        right,
-        high,
+        left: lesser_of(b.left, p.x),
+        low: lesser_of(b.low, p.y),
+        right: greater_of(b.right, p.x),
+        high: greater_of(b.high, p.y),
     }
 }
 
 // A trace whose two points are one: a null shape (SHEETS 12.5).
-fn is_still(x: f64, y: f64, u: f64, v: f64) -> bool
-    ensures { result ≡ still x y u v }
+fn is_still(p: Point, q: Point) -> bool
+    ensures { result ≡ still p q }
 {
-    if x == u { y == v } else { false }
+    p.x == q.x && p.y == q.y
 }
 
 // The box that takes in a shape's points too; a null shape has none (SHEETS 12.6).
@@ -111,30 +114,30 @@ pub fn widened(b: Bounds, s: Shape) -> Bounds
     ensures { result ≡ widen b s }
 {
     match s {
-        Shape::End(x, y) => widened_to(b, x, y),
-        Shape::Trace(x, y, u, v) => {
-            if is_still(x, y, u, v) {
+        Shape::End(p) => widened_to(b, p),
+        Shape::Trace(p, q) => {
+            if is_still(p, q) {
                 b
             } else {
-                let first = widened_to(b, x, y);
-                widened_to(first, u, v)
+                let first = widened_to(b, p);
+                widened_to(first, q)
             }
         }
     }
 }
 
 // The box of two points.
-fn spanned_by(x: f64, y: f64, u: f64, v: f64) -> Bounds
-    requires { (number x × number y) × (number u × number v) }
-    ensures { (result ≡ spanned x y u v) × BoundsSound result }
+fn spanned_by(p: Point, q: Point) -> Bounds
+    requires { PointSound p × PointSound q }
+    ensures { (result ≡ spanned p q) × BoundsSound result }
 {
     let b = Bounds {
-        left: x,
-        low: y,
-        right: x,
-        high: y,
+        left: p.x,
+        low: p.y,
+        right: p.x,
+        high: p.y,
     };
-    widened_to(b, u, v)
+    widened_to(b, q)
 }
 
 // The box's four doubles.
@@ -148,12 +151,12 @@ pub fn put_bounds(out: &mut [u8], at: usize, b: Bounds)
     doubles::put_double(out, at + HIGH, b.high);
 }
 
-fn put_point(out: &mut [u8], at: usize, x: f64, y: f64)
-    requires { (at + 16 ≤ length out.old) × (number x × number y) }
-    ensures { out.new ≡ sets out.old at (point_bytes (bits x) (bits y)) }
+fn put_point(out: &mut [u8], at: usize, p: Point)
+    requires { (at + 16 ≤ length out.old) × PointSound p }
+    ensures { out.new ≡ sets out.old at (point_bytes (bits p.x) (bits p.y)) }
 {
-    doubles::put_double(out, at, x);
-    doubles::put_double(out, at + WIDTH, y);
+    doubles::put_double(out, at, p.x);
+    doubles::put_double(out, at + WIDTH, p.y);
 }
 
 // A record's number and length, and the type with which its contents start.
@@ -177,25 +180,24 @@ fn put_counts(out: &mut [u8], at: usize)
 }
 
 // An end (SHEETS 12.4).
-fn put_end(out: &mut [u8], at: usize, n: u64, x: f64, y: f64)
-    requires { (at + 28 ≤ length out.old) × (number x × number y) }
-    ensures { out.new ≡ sets out.old at (record_bytes n (point_content (bits x) (bits y))) }
+fn put_end(out: &mut [u8], at: usize, n: u64, p: Point)
+    requires { (at + 28 ≤ length out.old) × PointSound p }
+    ensures { out.new ≡ sets out.old at (record_bytes n (point_content (bits p.x) (bits p.y))) }
 {
     put_head(out, at, n, END_WORDS, POINT);
-    put_point(out, at + NUMBERED, x, y);
+    put_point(out, at + NUMBERED, p);
 }
 
 // A trace of some length (SHEETS 12.5).
-fn put_line(out: &mut [u8], at: usize, n: u64, x: f64, y: f64, u: f64, v: f64)
-    requires { (at + 88 ≤ length out.old) × ((number x × number y) × (number u × number v)) }
-    ensures { out.new ≡ sets out.old at (record_bytes n (line_content (bounds_bytes (spanned x y u v)) (bits x) (bits y) (bits u) (bits v))) }
+fn put_line(out: &mut [u8], at: usize, n: u64, p: Point, q: Point)
+    requires { (at + 88 ≤ length out.old) × (PointSound p × PointSound q) }
+    ensures { out.new ≡ sets out.old at (record_bytes n (line_content (bounds_bytes (spanned p q)) (bits p.x) (bits p.y) (bits q.x) (bits q.y))) }
 {
     put_head(out, at, n, TRACE_WORDS, POLYLINE);
-    let b = spanned_by(x, y, u, v);
-    put_bounds(out, at + NUMBERED, b);
+    put_bounds(out, at + NUMBERED, spanned_by(p, q));
     put_counts(out, at + COUNTS);
-    put_point(out, at + FIRST, x, y);
-    put_point(out, at + SECOND, u, v);
+    put_point(out, at + FIRST, p);
+    put_point(out, at + SECOND, q);
 }
 
 // The n-th record; gives the place behind it.
@@ -204,16 +206,16 @@ pub fn put_record(out: &mut [u8], at: usize, n: u64, s: Shape) -> usize
     ensures { (result ≡ at + (8 + length (content_of s))) × (out.new ≡ sets out.old at (record_bytes n (content_of s))) }
 {
     match s {
-        Shape::End(x, y) => {
-            put_end(out, at, n, x, y);
+        Shape::End(p) => {
+            put_end(out, at, n, p);
             at + END_RECORD
         }
-        Shape::Trace(x, y, u, v) => {
-            if is_still(x, y, u, v) {
+        Shape::Trace(p, q) => {
+            if is_still(p, q) {
                 put_head(out, at, n, NULL_WORDS, NULL);
                 at + NULL_RECORD
             } else {
-                put_line(out, at, n, x, y, u, v);
+                put_line(out, at, n, p, q);
                 at + TRACE_RECORD
             }
         }
@@ -225,9 +227,9 @@ pub fn record_size(s: Shape) -> usize
     ensures { (result ≡ 8 + length (content_of s)) × (result ≤ 88) }
 {
     match s {
-        Shape::End(x, y) => END_RECORD,
-        Shape::Trace(x, y, u, v) => {
-            if is_still(x, y, u, v) {
+        Shape::End(_) => END_RECORD,
+        Shape::Trace(p, q) => {
+            if is_still(p, q) {
                 NULL_RECORD
             } else {
                 TRACE_RECORD

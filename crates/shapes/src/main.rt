@@ -4,13 +4,13 @@
 
 ghost use Rattle.std.specs.Prelude.{◌≡◌, ℕ, ◌≤◌, length, OnOk};
 ghost use Rattle.std.specs.Io.KnownBytes.{Appends};
-ghost use Rattle.sheet.specs.Returned.{refused};
+ghost use Rattle.sheet.specs.Returned.{number_of, refused};
 ghost use Rattle.sheet.specs.Scan.{verdict_of};
 ghost use Rattle.text.specs.Lines.{refused_of};
 ghost use Rattle.shapes.specs.Started.{Starts, name_of, bytes_of};
 
 use shapefile::{Layer, Part};
-use sheet::{Answer, Verdict};
+use sheet::Refusal;
 use std::env::Env;
 use std::fs::Files;
 use std::io::Write;
@@ -43,10 +43,9 @@ fn name(base: &[u8], ending: &[u8], path: &mut [u8]) -> usize
 fn fill(layer: Layer, part: Part, sheet: &[u8], out: &mut [u8]) -> usize
     ensures { Starts (bytes_of layer part sheet.now (length out.old)) out.new result }
 {
-    let answer = shape_layers::of_bytes(layer, part, sheet, out);
-    match answer {
-        Answer::Gives(n) => n,
-        Answer::Refused(_, _) => 0,
+    match shape_layers::layer_file(layer, part, sheet, out) {
+        Ok(n) => n,
+        Err(_) => 0,
     }
 }
 
@@ -102,11 +101,11 @@ fn export<F: Files, W: Write, E: Write>(
 }
 
 // The line of a refusal.
-fn refuse<W: Write>(out: &mut W, number: u8, place: usize) -> io::Result<()>
-    ensures { OnOk result (Appends (W.contents out.old) (W.contents out.new) (refused_of number place)) }
+fn refuse<W: Write>(out: &mut W, refusal: Refusal) -> io::Result<()>
+    ensures { OnOk result (Appends (W.contents out.old) (W.contents out.new) (refused_of (number_of refusal.kind) refusal.place)) }
 {
     let mut line = [0u8; LINE];
-    let n = page::put_refusal(number, place, &mut line);
+    let n = page::put_refusal(u8::from(refusal.kind), refusal.place, &mut line);
     out.write_all(&line[..n])
 }
 
@@ -119,10 +118,9 @@ fn answer<F: Files, W: Write, E: Write>(
     ensures { (k p : ℕ) → verdict_of sheet.now ≡ refused k p
         → OnOk result (Appends (W.contents host.old.out) (W.contents host.new.out) (refused_of k p)) }
 {
-    let verdict = sheet_reader::scan(sheet);
-    match verdict {
-        Verdict::Refused(number, place) => refuse(&mut host.out, number, place),
-        Verdict::Accepted => {
+    match sheet_reader::scan(sheet) {
+        Err(refusal) => refuse(&mut host.out, refusal),
+        Ok(()) => {
             export(host, Layer::Traces, Part::Main, sheet, base, b"-traces.shp")?;
             export(
                 host,

@@ -1,8 +1,8 @@
 -- The answer of a call that writes, in the numbers of SHEETS 3.1 and 3.11.
-use Rattle.sheet.specs.declared.Answer.{Answer}
-use Rattle.sheet.specs.declared.Answer.TheVariants.{Gives, Refused}
-use Rattle.sheet.specs.Returned.{Returned, gives, refused}
+use Rattle.std.specs.Prelude.{ℕ, Result, Ok, Err}
+use Rattle.sheet.specs.declared.Refusal.{Refusal}
+use Rattle.sheet.specs.Returned.{Returned, gives, refusal}
 
-abbrev pub answered : Answer → Returned
-answered (Gives n) = gives n
-answered (Refused n p) = refused n p
+abbrev pub answered : Result ℕ Refusal → Returned
+answered (Ok n) = gives n
+answered (Err r) = refusal r

@@ -8,7 +8,7 @@ use native.Mathlib.Nat.{mul-le-mul_right}
 use native.Mathlib.Decide.{dec_le}
 use native.Mathlib.Omega.{arith}
 use lib.Dec.{eqb}
-use lib.ListN.{length, take, drop, set, length-append}
+use lib.ListN.{length, take, drop, set, length-append, length-map}
 use lib.Seq.{sets, take_all, take_at, take-append-le, length-take-le}
 use Rattle.byte_order.proofs.Stores.{sets-both, sets_front}
 use Rattle.sheet.specs.declared.Track.{Track}
@@ -21,7 +21,7 @@ use Rattle.sheet.specs.Ordered.{less, sort_by, ordered, entry, commands_in, orde
 use Rattle.sheet.proofs.Format.{encode-length}
 use Rattle.sheet.proofs.Sorted.{sort_perm}
 use Rattle.sheet_sorting.proofs.Insertion.{sort-map}
-use Rattle.sheet_encoding.specs.Run.{run, Ran, id_of, InForm}
+use Rattle.sheet_encoding.specs.Run.{run, Ran, id_of}
 use Rattle.sheet_encoding.proofs.Run.{take-map}
 
 run-append : (l k : List Command) → run (l ++ k) ≡ run l ++ run k
@@ -110,17 +110,9 @@ module _ (l : List Command) (b : Command) (n : ℕ) (h : length l < n) where
   more-length = rw (more_claimed, run-append, append-nil) (length-append (run l) (encode b) ∙ ap (λ k. length (run l) + k) (encode-length b))
 
 -- a kind's records as commands; n of the records are claimed, `blank` behind them
-module _ {A : Type 0} (f : A → Command) (l : List A) (blank : A) (n : ℕ) {commands : List Command} (e : InForm f l n commands) where
-  -- more claimed than there are
-  all_there : length l < n → commands ≡ map f l
-  all_there h = sym (take_all n commands (omega (arith, e.long))) ∙ e.first ∙ ap (map f) (take_all n l (omega arith))
-
+module _ {A : Type 0} (f : A → Command) (l : List A) (blank : A) (n : ℕ) {commands : List Command} (e : commands ≡ map f l) where
   claimed : take n (commands ++ (f blank ∷ [])) ≡ map f (take n (l ++ (blank ∷ [])))
-  claimed = go (dec_le n (length l))
-    where
-      go : Dec (n ≤ length l) → take n (commands ++ (f blank ∷ [])) ≡ map f (take n (l ++ (blank ∷ [])))
-      go (yes h) = take-append-le n commands (f blank ∷ []) (omega (arith, e.long)) ∙ e.first ∙ ap (map f) (sym (take-append-le n l (blank ∷ []) h))
-      go (no h) = rw (all_there (omega arith), ← map-append f l (blank ∷ [])) (take-map f n (l ++ (blank ∷ [])))
+  claimed = rw (e, ← map-append f l (blank ∷ [])) (take-map f n (l ++ (blank ∷ [])))
 
   pub claimed_ran : {at end : ℕ} {before after : List ℕ} → Ran at (take n (commands ++ (f blank ∷ []))) before after end
       → Ran at (map f (take n (l ++ (blank ∷ [])))) before after end
@@ -130,17 +122,20 @@ module _ {A : Type 0} (f : A → Command) (l : List A) (blank : A) (n : ℕ) {co
   pub claimed_length : (w : ℕ) → ((a : A) → width (f a) ≤ w) → length (run (take n (commands ++ (f blank ∷ [])))) ≤ length l * w + width (f blank)
   claimed_length w most = go (dec_le n (length l))
     where
+      size : length commands ≡ length l
+      size = simp length-map at (ap length e)
+
       go : Dec (n ≤ length l) → length (run (take n (commands ++ (f blank ∷ [])))) ≤ length l * w + width (f blank)
       go (yes h) =
           let k : length (take n l) ≤ length l = omega (arith, length-take-le n l h) in
-          rw (take-append-le n commands (f blank ∷ []) (omega (arith, e.long)), e.first) (omega (arith, run-most f w most (take n l), mul-le-mul_right w k))
+          rw (claimed, take-append-le n l (blank ∷ []) h) (omega (arith, run-most f w most (take n l), mul-le-mul_right w k))
       go (no h) =
-          let r : length (run commands) ≤ length l * w = rw (all_there (omega arith)) (run-most f w most l) in
-          omega (arith, more-length commands (f blank) n (omega (arith, e.long)))
+          let r : length (run commands) ≤ length l * w = rw e (run-most f w most l) in
+          omega (arith, more-length commands (f blank) n (omega (arith, size)))
 
   module _ (h : n ≤ length l) where
     sorted : sort_by id_of (take n commands) ≡ map f (sort_by (λ a. id_of (f a)) (take n (l ++ (blank ∷ []))))
-    sorted = rw (e.first, sort-map id_of f, take-append-le n l (blank ∷ []))
+    sorted = rw (e, take-map f n l, sort-map id_of f, take-append-le n l (blank ∷ []))
 
     pub sorted_ran : {at end : ℕ} {before after : List ℕ} → Ran at (sort_by id_of (take n commands)) before after end
         → Ran at (map f (sort_by (λ a. id_of (f a)) (take n (l ++ (blank ∷ []))))) before after end

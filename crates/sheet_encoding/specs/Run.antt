@@ -1,5 +1,5 @@
 -- Commands one behind the other, without the end.
-use Rattle.std.specs.Prelude.{◌≡◌, false, List, [], ◌∷◌, ◌++◌, map, ℕ, ◌+◌, ◌*◌, length, take}
+use Rattle.std.specs.Prelude.{◌≡◌, false, List, [], ◌∷◌, ◌++◌, ℕ, ◌+◌, ◌*◌, length}
 use Rattle.std.proofs.lemmas.List.Edits.{sets}
 use Rattle.sheet.specs.declared.Command.{Command}
 use Rattle.sheet.specs.declared.Command.TheVariants.{AddTrack, AddWall}
@@ -22,11 +22,6 @@ id_of (AddWall w) = w.id
 -- what stands past the end of an array of commands
 abbrev pub no_command : Command
 no_command = AddTrack no_track false
-
--- m has as many elements as l, the first n of them those of l in another form
-pub record InForm {A : Type 0} (f : A → Command) (l : List A) (n : ℕ) (m : List Command) : Type 0 where
-  pub long : length m ≡ length l
-  pub first : take n m ≡ map f (take n l)
 
 -- the bytes of the longest sheet that records handed in stand for: 256 tracks by 03, a blank by 01, 257 walls and 00 (SHEETS 2.9)
 abbrev pub longest_listed : ℕ

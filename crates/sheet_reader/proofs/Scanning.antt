@@ -13,7 +13,9 @@ use Rattle.sheet.specs.declared.Item.TheVariants.{Add}
 use Rattle.sheet.specs.Format.{item_at, width}
 use Rattle.sheet.specs.Listing.{tracks_of, walls_of}
 use Rattle.sheet.specs.Table.{table, no_line, first_broken, too_many}
-use Rattle.sheet.specs.Returned.{refused}
+use Rattle.sheet.specs.declared.RefusalKind.{RefusalKind}
+use Rattle.sheet.specs.declared.RefusalKind.TheVariants.{NoCommand, CutShort, BytesBehindEnd, OffSheet, WrongSpeed, EqualEnds, TooMany, IdTaken, StartTaken, StartOnWall, OutputTooShort, GridFigure, OutsideGrid}
+use Rattle.sheet.specs.Returned.{number_of, refused}
 use Rattle.sheet.specs.Scan.{verdict_of}
 use Rattle.sheet.proofs.Acceptance.{tracks-append, walls_append}
 use Rattle.sheet_rules.specs.Judged.{alone_of, worst_of}
@@ -44,6 +46,24 @@ module _ {s : List ℕ} {at tracks walls : ℕ} {before : List Command} (h : SoF
 
     pub breaks_pair : alone_of c ≡ no_line → worst_of c before ≡ first_broken table before c
     breaks_pair e = sym (table_by_parts before c ∙ simp (few, eq-eqb _ _ e))
+
+-- a kind of refusal has a number in the table
+pub some_line : (k : RefusalKind) → number_of k ≡ no_line → ⊥
+some_line = elim [
+  | NoCommand ↦ λ e. omega arith
+  | CutShort ↦ λ e. omega arith
+  | BytesBehindEnd ↦ λ e. omega arith
+  | OffSheet ↦ λ e. omega arith
+  | WrongSpeed ↦ λ e. omega arith
+  | EqualEnds ↦ λ e. omega arith
+  | TooMany ↦ λ e. omega arith
+  | IdTaken ↦ λ e. omega arith
+  | StartTaken ↦ λ e. omega arith
+  | StartOnWall ↦ λ e. omega arith
+  | OutputTooShort ↦ λ e. omega arith
+  | GridFigure ↦ λ e. omega arith
+  | OutsideGrid ↦ λ e. omega arith
+]
 
 -- ---- the loop
 

@@ -1,10 +1,11 @@
 -- What reading a sheet's bytes gives: the verdict (SHEETS 3.3), and the records of an accepted sheet (SHEETS 2.7).
-use Rattle.std.specs.Prelude.{◌≡◌, List, [], ℕ}
+use Rattle.std.specs.Prelude.{◌≡◌, List, [], ℕ, Result, Ok, Err}
+use Rattle.sheet.specs.declared.Sheet.{Sheet}
+use Rattle.sheet.specs.declared.Refusal.{Refusal}
 use Rattle.sheet.specs.Listing.{Listing, listing}
-use Rattle.sheet.specs.Returned.{Returned, accepted, gives, refused, verdict}
+use Rattle.sheet.specs.Returned.{Returned, accepted, gives, refused, refusal}
 use Rattle.sheet.specs.Scan.{verdict_of, commands_of}
 use Rattle.sheet.specs.HandedIn.{sheet_of}
-use Rattle.sheet_reader.specs.declared.Reading.{Reading}
 
 -- a refused sheet has no records (SHEETS 2.11)
 abbrev pub if_accepted : Returned → Listing → Listing
@@ -16,7 +17,7 @@ if_accepted (refused n p) l = listing []
 abbrev pub records_of : List ℕ → Listing
 records_of s = if_accepted (verdict_of s) (listing (commands_of s))
 
--- what reading gives (SHEETS 2.7, 2.11, 3.3)
-pub record ReadFrom (s : List ℕ) (r : Reading) : Type 0 where
-  pub judged : verdict r.verdict ≡ verdict_of s
-  pub records : r.sheet ≡ sheet_of (records_of s)
+-- what reading gives: the records of an accepted sheet, or the refusal (SHEETS 2.7, 2.11, 3.3)
+abbrev pub ReadFrom : List ℕ → Result Sheet Refusal → Type 0
+ReadFrom s (Ok sheet) = (verdict_of s ≡ accepted) × (sheet ≡ sheet_of (listing (commands_of s)))
+ReadFrom s (Err r) = verdict_of s ≡ refusal r

@@ -10,12 +10,13 @@ ghost use Rattle.sheet.specs.Table.{table, first_broken};
 ghost use Rattle.sheet.specs.Returned.{verdict, accepted, refused};
 ghost use Rattle.sheet.specs.Scan.{verdict_of, commands_of};
 ghost use Rattle.sheet.specs.HandedIn.{sheet_of};
-ghost use Rattle.sheet_rules.specs.Judged.{worst_of};
+ghost use Rattle.sheet_rules.specs.Judged.{line_of, worst_of};
 ghost use Rattle.sheet_reader.specs.Walk.{WholeAt, Walk, SoFar, named, of_kind};
 ghost use Rattle.sheet_reader.specs.Reading.{ReadFrom};
 
-use sheet::{Command, Item, LATE_BYTES, Sheet, TRACK_BYTES, Track, Verdict, WALL_BYTES, Wall};
-use sheet_rules::NO_LINE;
+use sheet::{
+    Command, Item, LATE_BYTES, Refusal, RefusalKind, Sheet, TRACK_BYTES, Track, WALL_BYTES, Wall,
+};
 
 // The operands that 01 and 03 have in common, of the track command at a place.
 fn track_at(s: &[u8], at: usize, start: u16) -> Track
@@ -112,12 +113,12 @@ fn item_at(s: &[u8], at: usize) -> Item
 }
 
 // The least of 8 to 10 that a command breaks with one before it. Those before are read again from the bytes:
-// no array of records is kept.
-fn clash_before(s: &[u8], at: usize, c: Command) -> u8
+// no array of records is kept. A `while`, since each command says how far on the next one stands.
+fn clash_before(s: &[u8], at: usize, c: Command) -> Option<RefusalKind>
     requires { (before : List Command) × Walk s.now 0 at before }
-    ensures { (before : List Command) → Walk s.now 0 at before → result ≡ worst_of c before }
+    ensures { (before : List Command) → Walk s.now 0 at before → line_of result ≡ worst_of c before }
 {
-    let mut worst = NO_LINE;
+    let mut worst = None;
     let mut p: usize = 0;
     while p < at {
         let d = command_at(s, p);
@@ -137,34 +138,36 @@ fn of_kind(c: Command, tracks: usize, walls: usize) -> usize
     }
 }
 
-// The number of the first line of the table that the command at a place breaks.
-fn judge_at(s: &[u8], at: usize, tracks: usize, walls: usize, c: Command) -> u8
+// The first line of the table that the command at a place breaks.
+fn broken_at(s: &[u8], at: usize, tracks: usize, walls: usize, c: Command) -> Option<RefusalKind>
     requires { (before : List Command) × SoFar s.now at tracks walls before }
-    ensures { (before : List Command) → SoFar s.now at tracks walls before → result ≡ first_broken table before c }
+    ensures { (before : List Command) → SoFar s.now at tracks walls before → line_of result ≡ first_broken table before c }
 {
     if 256 <= of_kind(c, tracks, walls) {
-        return 7;
+        return Some(RefusalKind::TooMany);
     }
-    let alone = sheet_rules::alone(c);
-    if alone != NO_LINE {
-        return alone;
+    match sheet_rules::alone(c) {
+        Some(kind) => Some(kind),
+        None => clash_before(s, at, c),
     }
-    clash_before(s, at, c)
 }
 
-// The verdict at 00: 3 if bytes follow it.
-fn end_at(s: &[u8], at: usize) -> Verdict
+// The verdict at 00: refused if bytes follow it.
+fn end_at(s: &[u8], at: usize) -> Result<(), Refusal>
     requires { at < length s.now }
     ensures { verdict result ≡ cond (eqb (at + 1) (length s.now)) accepted (refused 3 (at + 1)) }
 {
     if at + 1 == s.len() {
-        return Verdict::Accepted;
+        return Ok(());
     }
-    Verdict::Refused(3, at + 1)
+    Err(Refusal {
+        kind: RefusalKind::BytesBehindEnd,
+        place: at + 1,
+    })
 }
 
-// The verdict on a sheet's bytes.
-pub fn scan(s: &[u8]) -> Verdict
+// The verdict on a sheet's bytes. A `loop`, since each item says how far on the next one stands.
+pub fn scan(s: &[u8]) -> Result<(), Refusal>
     ensures { verdict result ≡ verdict_of s.now }
 {
     let mut at: usize = 0;
@@ -173,13 +176,22 @@ pub fn scan(s: &[u8]) -> Verdict
     loop {
         let item = item_at(s, at);
         match item {
-            Item::Unknown => return Verdict::Refused(1, at),
-            Item::Cut => return Verdict::Refused(2, at),
+            Item::Unknown => {
+                return Err(Refusal {
+                    kind: RefusalKind::NoCommand,
+                    place: at,
+                });
+            }
+            Item::Cut => {
+                return Err(Refusal {
+                    kind: RefusalKind::CutShort,
+                    place: at,
+                });
+            }
             Item::End => return end_at(s, at),
             Item::Add(c) => {
-                let broken = judge_at(s, at, tracks, walls, c);
-                if broken != NO_LINE {
-                    return Verdict::Refused(broken, at);
+                if let Some(kind) = broken_at(s, at, tracks, walls, c) {
+                    return Err(Refusal { kind, place: at });
                 }
                 at += bytes_of(c);
                 tracks += of_kind(c, 1, 0);
@@ -189,36 +201,37 @@ pub fn scan(s: &[u8]) -> Verdict
     }
 }
 
+const NO_TRACK: Track = Track {
+    id: 0,
+    x: 0,
+    y: 0,
+    vx: 0,
+    vy: 0,
+    start: 0,
+};
+
+const NO_WALL: Wall = Wall {
+    id: 0,
+    ax: 0,
+    ay: 0,
+    bx: 0,
+    by: 0,
+};
+
 // A sheet with no records.
-fn blank() -> Sheet
+#[tactic(auto, unfolding(sheet::specs::Listing::tracks_of, sheet::specs::Listing::walls_of))]
+pub fn blank() -> Sheet
     ensures { result ≡ sheet_of (listing []) }
 {
-    let t = Track {
-        id: 0,
-        x: 0,
-        y: 0,
-        vx: 0,
-        vy: 0,
-        start: 0,
-    };
-    let w = Wall {
-        id: 0,
-        ax: 0,
-        ay: 0,
-        bx: 0,
-        by: 0,
-    };
-    let tracks = [t; 256];
-    let walls = [w; 256];
     Sheet {
-        tracks,
+        tracks: [NO_TRACK; 256],
         ntracks: 0,
-        walls,
+        walls: [NO_WALL; 256],
         nwalls: 0,
     }
 }
 
-// The records of an accepted sheet, stored in place.
+// The records of an accepted sheet, stored in place. A `while`, since each command says how far on the next one stands.
 pub fn load(s: &[u8]) -> Sheet
     requires { verdict_of s.now ≡ accepted }
     ensures { result ≡ sheet_of (listing (commands_of s.now)) }
@@ -244,21 +257,10 @@ pub fn load(s: &[u8]) -> Sheet
     sheet
 }
 
-// What reading gives; a refused sheet comes with no records.
-#[derive(Clone, Copy)]
-pub struct Reading {
-    pub verdict: Verdict,
-    pub sheet: Sheet,
-}
-
-// The verdict on a sheet's bytes, with the records of an accepted sheet.
-pub fn read(s: &[u8]) -> Reading
+// The records of a sheet's bytes, if they are accepted.
+pub fn read(s: &[u8]) -> Result<Sheet, Refusal>
     ensures { ReadFrom s.now result }
 {
-    let verdict = scan(s);
-    let sheet = match verdict {
-        Verdict::Accepted => load(s),
-        Verdict::Refused(_, _) => blank(),
-    };
-    Reading { verdict, sheet }
+    scan(s)?;
+    Ok(load(s))
 }

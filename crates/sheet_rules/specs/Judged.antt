@@ -1,7 +1,14 @@
 -- What the lines 4 to 6 and 8 to 10 of the table (SHEETS 3.1) say of one command, and of one with another before it.
-use Rattle.std.specs.Prelude.{cond, List, [], ◌∷◌, ℕ, ltb}
+use Rattle.std.specs.Prelude.{cond, List, [], ◌∷◌, ℕ, ltb, Option, Some, None}
 use Rattle.sheet.specs.declared.Command.{Command}
+use Rattle.sheet.specs.declared.RefusalKind.{RefusalKind}
+use Rattle.sheet.specs.Returned.{number_of}
 use Rattle.sheet.specs.Table.{no_line, off_sheet, wrong_speed, equal_ends, same_id, start_used, start_on_wall}
+
+-- the number of what is broken, if anything is (SHEETS 3.1)
+abbrev pub line_of : Option RefusalKind → ℕ
+line_of None = no_line
+line_of (Some k) = number_of k
 
 -- 4, 5 or 6, the first that the command breaks by itself
 unfoldable pub alone_of : Command → ℕ

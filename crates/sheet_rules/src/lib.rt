@@ -4,9 +4,9 @@
 
 ghost use Rattle.std.specs.Prelude.{◌≡◌, Bool, ◌&&◌, ◌||◌, cond, eqb, ltb, nat_abs, ◌*ℤ◌};
 ghost use Rattle.sheet.specs.Table as table;
-ghost use Rattle.sheet_rules.specs.Judged.{alone_of, clash_of, lesser};
+ghost use Rattle.sheet_rules.specs.Judged.{line_of, alone_of, clash_of, lesser};
 
-use sheet::{Command, Track, Wall};
+use sheet::{Command, RefusalKind, Track, Wall};
 
 // Above what a coordinate and a start time may be.
 fn off(n: u16) -> bool
@@ -60,39 +60,28 @@ fn off_sheet(c: Command) -> bool
 fn wrong_speed(c: Command) -> bool
     ensures { result ≡ table.wrong_speed c }
 {
-    match c {
-        Command::AddTrack(a, _) => bad_speed(a),
-        Command::AddWall(_) => false,
-    }
+    matches!(c, Command::AddTrack(a, _) if bad_speed(a))
 }
 
 // 6: the wall's two ends are one point.
 fn equal_ends(c: Command) -> bool
     ensures { result ≡ table.equal_ends c }
 {
-    match c {
-        Command::AddTrack(_, _) => false,
-        Command::AddWall(w) => same_point(w.ax, w.ay, w.bx, w.by),
-    }
+    matches!(c, Command::AddWall(w) if same_point(w.ax, w.ay, w.bx, w.by))
 }
 
-// Stands for no line of the table: above every number of one.
-pub const NO_LINE: u8 = 255;
-
 // The first of 4, 5, 6 that the command breaks.
-pub fn alone(c: Command) -> u8
-    ensures { result ≡ alone_of c }
+#[tactic(auto, unfolding(crate::specs::Judged::alone_of))]
+pub fn alone(c: Command) -> Option<RefusalKind>
+    ensures { line_of result ≡ alone_of c }
 {
     if off_sheet(c) {
-        return 4;
+        return Some(RefusalKind::OffSheet);
     }
     if wrong_speed(c) {
-        return 5;
+        return Some(RefusalKind::WrongSpeed);
     }
-    if equal_ends(c) {
-        return 6;
-    }
-    NO_LINE
+    equal_ends(c).then_some(RefusalKind::EqualEnds)
 }
 
 // b - a.
@@ -144,49 +133,52 @@ fn start_on(a: Track, w: Wall) -> bool
 }
 
 // By whichever of 01 and 03 each is listed; start times play no part.
-fn tracks_clash(a: Track, b: Track) -> u8
-    ensures { (p q : Bool) → result ≡ clash_of (Command.AddTrack a p) (Command.AddTrack b q) }
+#[tactic(auto, unfolding(crate::specs::Judged::clash_of))]
+fn tracks_clash(a: Track, b: Track) -> Option<RefusalKind>
+    ensures { (p q : Bool) → line_of result ≡ clash_of (Command.AddTrack a p) (Command.AddTrack b q) }
 {
     if a.id == b.id {
-        return 8;
+        return Some(RefusalKind::IdTaken);
     }
-    if same_point(a.x, a.y, b.x, b.y) {
-        return 9;
-    }
-    NO_LINE
+    same_point(a.x, a.y, b.x, b.y).then_some(RefusalKind::StartTaken)
 }
 
 // Of the two either may be the later.
-fn start_clash(a: Track, w: Wall) -> u8
-    ensures { result ≡ cond (table.start_on a w) 10 table.no_line }
+fn start_clash(a: Track, w: Wall) -> Option<RefusalKind>
+    ensures { line_of result ≡ cond (table.start_on a w) 10 table.no_line }
 {
-    if start_on(a, w) { 10 } else { NO_LINE }
+    start_on(a, w).then_some(RefusalKind::StartOnWall)
 }
 
-fn walls_clash(v: Wall, w: Wall) -> u8
-    ensures { result ≡ clash_of (Command.AddWall v) (Command.AddWall w) }
+#[tactic(auto, unfolding(crate::specs::Judged::clash_of))]
+fn walls_clash(v: Wall, w: Wall) -> Option<RefusalKind>
+    ensures { line_of result ≡ clash_of (Command.AddWall v) (Command.AddWall w) }
 {
-    if v.id == w.id { 8 } else { NO_LINE }
+    (v.id == w.id).then_some(RefusalKind::IdTaken)
 }
 
 // The first of 8 to 10 that c breaks with d before it.
-pub fn clash(c: Command, d: Command) -> u8
-    ensures { result ≡ clash_of c d }
+#[tactic(auto, unfolding(crate::specs::Judged::clash_of))]
+pub fn clash(c: Command, d: Command) -> Option<RefusalKind>
+    ensures { line_of result ≡ clash_of c d }
 {
-    match c {
-        Command::AddTrack(a, _) => match d {
-            Command::AddTrack(b, _) => tracks_clash(a, b),
-            Command::AddWall(w) => start_clash(a, w),
-        },
-        Command::AddWall(v) => match d {
-            Command::AddTrack(b, _) => start_clash(b, v),
-            Command::AddWall(w) => walls_clash(v, w),
-        },
+    match (c, d) {
+        (Command::AddTrack(a, _), Command::AddTrack(b, _)) => tracks_clash(a, b),
+        (Command::AddTrack(a, _), Command::AddWall(w)) => start_clash(a, w),
+        (Command::AddWall(v), Command::AddTrack(b, _)) => start_clash(b, v),
+        (Command::AddWall(v), Command::AddWall(w)) => walls_clash(v, w),
     }
 }
 
-pub fn lesser(a: u8, b: u8) -> u8
-    ensures { result ≡ lesser a b }
+// Of two the one of the lesser number.
+pub fn lesser(a: Option<RefusalKind>, b: Option<RefusalKind>) -> Option<RefusalKind>
+    ensures { line_of result ≡ lesser (line_of a) (line_of b) }
 {
-    if b < a { b } else { a }
+    let Some(y) = b else {
+        return a;
+    };
+    let Some(x) = a else {
+        return b;
+    };
+    if u8::from(y) < u8::from(x) { b } else { a }
 }

@@ -1,3 +1,3 @@
 pub mod Insertion
-pub mod Moving
+pub mod Rising
 pub mod Indexed

@@ -1,11 +1,10 @@
--- A line put together piece by piece. Main theorems: `pushed`, a byte put behind a line's text; `behind`, a piece put behind a known text; `seven`, the fields of a row's line.
+-- A line put together piece by piece. Main theorems: `behind`, a piece put behind a known text; `eight`, the fields of a row's line.
 use mathlib.Core.Path.{◌≡◌, sym, ap, subst, ◌∙◌}
-use mathlib.Core.List.{List, [], ◌∷◌, ◌++◌, append_assoc, append-nil}
+use mathlib.Core.List.{List, [], ◌∷◌, ◌++◌, append_assoc}
 use Prim.Native.Nat.{ℕ, ◌+◌, ◌/◌, ◌%◌, ◌≤◌, ◌<◌}
-use native.Mathlib.Numerals.{add-one}
 use native.Mathlib.Omega.{arith}
-use lib.ListN.{length, take, get_or, set, length-append, length-set, length-take}
-use lib.Seq.{length-take-le, take-suc-set, take-suc, take_all}
+use lib.ListN.{length, length-append}
+use lib.Seq.{length-take-le}
 use Rattle.rule.specs.declared.Row.{Row}
 use Rattle.rule.specs.RowBytes.{kind_of, partner_of}
 use Rattle.rule.specs.Side.{side_number}
@@ -18,15 +17,6 @@ use Rattle.text.proofs.Decimal.{decimal-one, decimal-more, decimal_short}
 pub text_length : {line : Draft} {n : ℕ} → Room line n → length (text_in line) ≡ line.length
 text_length {line} r = length-take-le line.length line.bytes (omega (arith, r.sized, r.fit))
 
-pub pushed : (line : Draft) (b : ℕ) → Room line 1 → Holds (text_in line ++ (b ∷ [])) (record { bytes = set line.bytes line.length b; length = line.length + 1 })
-pushed line b r =
-    let i : line.length < length line.bytes = omega (arith, r.sized, r.fit) in
-    record {
-      sized = length-set line.bytes line.length b ∙ r.sized;
-      is = rw add-one (take-suc-set line.bytes line.length b i);
-      long = simp length-append (omega (arith, text_length r));
-    }
-
 module _ {a : List ℕ} {line : Draft} (h : Holds a line) where
   -- room behind a known text
   pub room : (n : ℕ) → length a + n ≤ draft_length → Room line n
@@ -35,10 +25,6 @@ module _ {a : List ℕ} {line : Draft} (h : Holds a line) where
   -- a piece behind a known text
   pub behind : (b : List ℕ) {r : Draft} → Holds (text_in line ++ b) r → Holds (a ++ b) r
   behind b {r} k = subst (λ (t : List ℕ). Holds (t ++ b) r) h.is k
-
-  -- a known text fits
-  pub whole : Room line 0
-  whole = record { sized = h.sized; fit = omega (arith, h.sized, h.long, ap length h.is, length-take line.length line.bytes) }
 
 -- ---- a number's digits, the last by itself
 
@@ -62,31 +48,7 @@ module _ {line : Draft} (v : ℕ) (room_for : Room line (length (decimal v))) wh
     pub more-done : {r : Draft} → Holds (text_in high ++ ((48 + v % 10) ∷ [])) r → Holds (text_in line ++ decimal v) r
     more-done {r} m = subst (λ (t : List ℕ). Holds t r) (append_assoc (text_in line) (decimal (v / 10)) ((48 + v % 10) ∷ []) ∙ ap (λ (t : List ℕ). text_in line ++ t) (sym (decimal-more v h))) (behind k ((48 + v % 10) ∷ []) m)
 
--- ---- a word's bytes
-
-module _ {line : Draft} (s : List ℕ) (room_for : Room line (length s)) where
-  pub word_none : Holds (text_in line ++ take 0 s) line
-  word_none = record { sized = room_for.sized; is = sym (append-nil (text_in line)); long = rw append-nil (sym (text_length room_for)) }
-
-  module _ {i : ℕ} {l : Draft} (h : Holds (text_in line ++ take i s) l) (k : i < length s) where
-    pub word_room : Room l 1
-    word_room = room h 1 (simp length-append (omega (arith, text_length room_for, length-take-le i s (omega arith), room_for.fit)))
-
-    pub word_more : {r : Draft} → Holds (text_in l ++ (get_or s i 0 ∷ [])) r → Holds (text_in line ++ take (i + 1) s) r
-    word_more {r} m = rw (add-one, take-suc s i 0 k, ← append_assoc) (behind h (get_or s i 0 ∷ []) m)
-
-  pub word_all : {i : ℕ} {l : Draft} → Holds (text_in line ++ take i s) l → length s ≤ i → Holds (text_in line ++ s) l
-  word_all {i} {l} h k = rw (take_all i s k) at h
-
 -- ---- fields
-
--- what a field leaves of the room
-pub left_by_field : (n : ℕ) {line r : Draft} {t : List ℕ} → Room line (21 + n) → Holds t r × (r.length ≤ line.length + 21) → Room r n
-left_by_field n h k = record { sized = k.0.sized; fit = omega (arith, h.fit, k.1) }
-
--- what a word leaves of it
-pub left_by_word : (n : ℕ) (w : List ℕ) {line r : Draft} → Room line (length w + n) → Holds (text_in line ++ w) r → Room r n
-left_by_word n w {line} h k = record { sized = k.sized; fit = omega (arith, h.fit, k.long, text_length h, length-append (text_in line) w) }
 
 pub less_room : (m n : ℕ) {line : Draft} → Room line m → n ≤ m → Room line n
 less_room m n r h = record { sized = r.sized; fit = omega (arith, r.fit) }

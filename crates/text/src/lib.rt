@@ -7,152 +7,156 @@ ghost use Rattle.text.specs.Printed.{Prints};
 ghost use Rattle.text.specs.Held.{text_in, Holds, Room};
 
 use rule::Row;
-use sheet::{Answer, OUTPUT_TOO_SHORT};
+use sheet::{Refusal, RefusalKind};
 
 // Room for every line: eight fields of at most 21 bytes.
 const DRAFT: usize = 168;
 
 // A line while it is put together.
-#[derive(Clone, Copy)]
+#[derive(Drop)]
 struct Draft {
     bytes: [u8; DRAFT],
     length: usize,
 }
 
-fn empty() -> Draft
-    ensures { Holds [] result }
-{
-    Draft {
-        bytes: [0; DRAFT],
-        length: 0,
+impl Draft {
+    fn empty() -> Draft
+        ensures { Holds [] result }
+    {
+        Draft {
+            bytes: [0; DRAFT],
+            length: 0,
+        }
     }
-}
 
-// One byte more.
-fn push(line: Draft, b: u8) -> Draft
-    requires { Room line 1 }
-    ensures { Holds (text_in line ++ (b ∷ [])) result }
-{
-    let n = line.length;
-    let mut bytes = line.bytes;
-    bytes[n] = b;
-    Draft {
-        bytes,
-        length: n + 1,
+    // One byte more.
+    fn push(&mut self, b: u8)
+        requires { Room self.old 1 }
+        ensures { Holds (text_in self.old ++ (b ∷ [])) self.new }
+    {
+        self.bytes[self.length] = b;
+        self.length += 1;
     }
-}
 
-// The decimal digits of v more.
-fn number(line: Draft, v: u64) -> Draft
-    requires { Room line (length (decimal v)) }
-    ensures { Holds (text_in line ++ decimal v) result }
-{
-    if v < 10 {
-        return push(line, 48 + v as u8);
+    // The decimal digits of v more. Not by `write!`: of a call that gives an `Err` it promises nothing, nor that none does.
+    fn put_number(&mut self, v: u64)
+        requires { Room self.old (length (decimal v)) }
+        ensures { Holds (text_in self.old ++ decimal v) self.new }
+    {
+        if v < 10 {
+            self.push(b'0' + v as u8);
+            return;
+        }
+        self.put_number(v / 10);
+        self.push(b'0' + (v % 10) as u8);
     }
-    let high = number(line, v / 10);
-    push(high, 48 + (v % 10) as u8)
-}
 
-// A number and the byte behind it: 21 bytes at most.
-fn put_field(line: Draft, v: u64, mark: u8) -> Draft
-    requires { Room line 21 }
-    ensures { Holds (text_in line ++ field v mark) result × (result.length ≤ line.length + 21) }
-{
-    push(number(line, v), mark)
-}
-
-// A word more.
-fn word(line: Draft, s: &[u8]) -> Draft
-    requires { Room line (length s.now) }
-    ensures { Holds (text_in line ++ s.now) result }
-{
-    let mut l = line;
-    let mut i = 0;
-    while i < s.len() {
-        l = push(l, s[i]);
-        i += 1;
+    // A number and the byte behind it: 21 bytes at most.
+    fn put_field(&mut self, v: u64, mark: u8)
+        requires { Room self.old 21 }
+        ensures { Holds (text_in self.old ++ field v mark) self.new × (self.new.length ≤ self.old.length + 21) }
+    {
+        self.put_number(v);
+        self.push(mark);
     }
-    l
+
+    // A word more.
+    fn put_word(&mut self, s: &[u8])
+        requires { Room self.old (length s.now) }
+        ensures { Holds (text_in self.old ++ s.now) self.new }
+    {
+        let end = self.length + s.len();
+        self.bytes[self.length..end].copy_from_slice(s);
+        self.length = end;
+    }
+
+    // The line copied to the caller's buffer, or 12.
+    fn give(&self, out: &mut [u8]) -> Result<usize, Refusal>
+        requires { Room self.now 0 }
+        ensures { Prints (text_in self.now) out.old out.new result }
+    {
+        let n = self.length;
+        if out.len() < n {
+            return Err(Refusal {
+                kind: RefusalKind::OutputTooShort,
+                place: n,
+            });
+        }
+        out[..n].copy_from_slice(&self.bytes[..n]);
+        Ok(n)
+    }
 }
 
 // id, kind, partner, time, x, y and side.
 fn row_line(row: Row) -> Draft
     ensures { Holds (line_of row) result }
 {
-    let e = row.ending;
-    let from = row.side;
-    let id = put_field(empty(), row.id as u64, b' ');
-    let kind = put_field(id, row::kind_of(e) as u64, b' ');
-    let partner = put_field(kind, row::partner_of(e) as u64, b' ');
-    let num = put_field(partner, row.at.num, b'/');
-    let den = put_field(num, row.at.den, b' ');
-    let x = put_field(den, row.x as u64, b' ');
-    let y = put_field(x, row.y as u64, b' ');
-    put_field(y, row::side_number(from) as u64, b'\n')
+    let mut line = Draft::empty();
+    line.put_field(row.id as u64, b' ');
+    line.put_field(row::kind_of(row.ending) as u64, b' ');
+    line.put_field(row::partner_of(row.ending) as u64, b' ');
+    line.put_field(row.at.num, b'/');
+    line.put_field(row.at.den, b' ');
+    line.put_field(row.x as u64, b' ');
+    line.put_field(row.y as u64, b' ');
+    line.put_field(row::side_number(row.side) as u64, b'\n');
+    line
 }
 
 fn head_line(tracks: u64, cells: u64) -> Draft
     ensures { Holds (head_of tracks cells) result }
 {
-    let left = put_field(word(empty(), b"tracks "), tracks, b' ');
-    put_field(word(left, b"cells "), cells, b'\n')
+    let mut line = Draft::empty();
+    line.put_word(b"tracks ");
+    line.put_field(tracks, b' ');
+    line.put_word(b"cells ");
+    line.put_field(cells, b'\n');
+    line
 }
 
 fn refusal_line(number: u8, place: usize) -> Draft
     ensures { Holds (refused_of number place) result }
 {
-    let left = put_field(word(empty(), b"refused "), number as u64, b' ');
-    put_field(left, place as u64, b'\n')
+    let mut line = Draft::empty();
+    line.put_word(b"refused ");
+    line.put_field(number as u64, b' ');
+    line.put_field(place as u64, b'\n');
+    line
 }
 
-fn running_line(tracks: u64) -> Draft
-    ensures { Holds (still_of tracks) result }
+fn running_line(running: u64) -> Draft
+    ensures { Holds (still_of running) result }
 {
-    word(put_field(empty(), tracks, b' '), b"still running\n")
-}
-
-// The line copied to the caller's buffer, or 12.
-fn give(line: Draft, out: &mut [u8]) -> Answer
-    requires { Room line 0 }
-    ensures { Prints (text_in line) out.old out.new result }
-{
-    let n = line.length;
-    if out.len() < n {
-        return Answer::Refused(OUTPUT_TOO_SHORT, n);
-    }
-    let mut i = 0;
-    while i < n {
-        out[i] = line.bytes[i];
-        i += 1;
-    }
-    Answer::Gives(n)
+    let mut line = Draft::empty();
+    line.put_field(running, b' ');
+    line.put_word(b"still running\n");
+    line
 }
 
 // The line of a row.
-pub fn line(row: Row, out: &mut [u8]) -> Answer
+pub fn line(row: Row, out: &mut [u8]) -> Result<usize, Refusal>
     ensures { Prints (line_of row) out.old out.new result }
 {
-    give(row_line(row), out)
+    row_line(row).give(out)
 }
 
 // The first line: the numbers of tracks and of cells entered.
-pub fn head(tracks: u64, cells: u64, out: &mut [u8]) -> Answer
+pub fn head(tracks: u64, cells: u64, out: &mut [u8]) -> Result<usize, Refusal>
     ensures { Prints (head_of tracks cells) out.old out.new result }
 {
-    give(head_line(tracks, cells), out)
+    head_line(tracks, cells).give(out)
 }
 
-// The line of a refusal: the table's number, and its place, length or figure.
-pub fn refusal(number: u8, place: usize, out: &mut [u8]) -> Answer
+// The line of a refusal: the table's number, and its place, length or figure. Two numbers, since a `Refusal` would ask more of callers.
+pub fn refusal(number: u8, place: usize, out: &mut [u8]) -> Result<usize, Refusal>
     ensures { Prints (refused_of number place) out.old out.new result }
 {
-    give(refusal_line(number, place), out)
+    refusal_line(number, place).give(out)
 }
 
 // The line of the number of tracks that still run.
-pub fn still_running(tracks: u64, out: &mut [u8]) -> Answer
+pub fn still_running(tracks: u64, out: &mut [u8]) -> Result<usize, Refusal>
     ensures { Prints (still_of tracks) out.old out.new result }
 {
-    give(running_line(tracks), out)
+    running_line(tracks).give(out)
 }

@@ -6,7 +6,8 @@ use Prim.Native.Nat.{ℕ, ◌<◌}
 use native.Mathlib.Decide.{ℕ_discrete}
 use lib.ListN.{length, set}
 use lib.Seq.{get_or-set_same, get_or-set_other}
-use Rattle.tips.specs.Tips.{Tip, tip_in, no_tip}
+use Rattle.tips.specs.declared.Tip.{Tip}
+use Rattle.tips.specs.Tips.{tip_in, no_tip}
 
 -- what holds of the new tip at i and of the others as they were holds of all
 pub at_put : (P : ℕ → Tip → Type 0) (ts : List Tip) (i : ℕ) (t : Tip) → i < length ts → P i t → ((j : ℕ) → j ≢ i → P j (tip_in ts j)) → (j : ℕ) → P j (tip_in (set ts i t) j)

@@ -1,130 +1,86 @@
-// What is printed of each call's answer.
-use grid_run::GridRolled;
-use sheet::{Answer, Sheet};
+// What is printed of each call's answer. A refusal is printed as `refused` with the table's two numbers.
+use grid_run::GridRoll;
+use sheet::{Refusal, Sheet};
 use std::io;
 use std::io::Write;
 
 // The low half of n as a digit.
 fn digit(n: u8) -> u8 {
     let d = n % 16;
-    if d < 10 { 48 + d } else { 87 + d }
+    if d < 10 { b'0' + d } else { b'a' + (d - 10) }
 }
 
-// Room for the digits that are written at a time.
-const DIGITS: usize = 512;
+// How many bytes are printed at a time.
+const BYTES: usize = 256;
 
-// The first n bytes of s in hexadecimal.
+// The first n bytes of s in hexadecimal. By hand, since `{:02x}` writes each byte apart, and a buffered writer takes the heap.
 pub fn print_hex<W: Write>(out: &mut W, s: &[u8], n: usize) -> io::Result<()> {
-    let mut digits = [0u8; DIGITS];
-    let mut used = 0;
-    let mut i = 0;
-    while i < s.len() {
-        if n <= i {
-            break;
+    for part in s[..n.min(s.len())].chunks(BYTES) {
+        let mut digits = [0u8; 2 * BYTES];
+        for (pair, b) in digits.chunks_exact_mut(2).zip(part) {
+            if let [high, low] = pair {
+                *high = digit(b / 16);
+                *low = digit(*b);
+            }
         }
-        if DIGITS - 2 < used {
-            out.write_all(&digits[..used])?;
-            used = 0;
-        }
-        let b = s[i];
-        digits[used] = digit(b / 16);
-        digits[used + 1] = digit(b);
-        used += 2;
-        i += 1;
+        out.write_all(&digits[..2 * part.len().min(BYTES)])?;
     }
-    out.write_all(&digits[..used])
-}
-
-pub fn print_text<W: Write>(out: &mut W, text: &[u8]) -> io::Result<()> {
-    out.write_all(text)
-}
-
-pub fn print_number<W: Write>(out: &mut W, n: usize) -> io::Result<()> {
-    write!(out, "{n}")
-}
-
-// `refused` and the table's two numbers.
-pub fn print_refusal<W: Write>(out: &mut W, number: u8, place: usize) -> io::Result<()> {
-    print_text(out, b"refused ")?;
-    print_number(out, number as usize)?;
-    print_text(out, b" ")?;
-    print_number(out, place)
+    Ok(())
 }
 
 // The numbers of tracks and walls, and the ordered form.
 pub fn print_form<W: Write>(out: &mut W, sheet: Sheet) -> io::Result<()> {
-    print_number(out, sheet.ntracks)?;
-    print_text(out, b" ")?;
-    print_number(out, sheet.nwalls)?;
-    print_text(out, b" ")?;
+    write!(out, "{} {} ", sheet.ntracks, sheet.nwalls)?;
     let mut form = [0u8; sheet::LONGEST_SHEET];
-    let answer = sheet_writer::write(sheet, &mut form);
-    match answer {
-        Answer::Gives(n) => print_hex(out, &form, n)?,
-        Answer::Refused(number, place) => print_refusal(out, number, place)?,
+    match sheet_writer::write(sheet, &mut form) {
+        Ok(n) => print_hex(out, &form, n)?,
+        Err(refusal) => write!(out, "{refusal}")?,
     }
-    print_text(out, b"\n")
+    out.write_all(b"\n")
 }
 
-// The plain run's rows, of at most 256 tracks.
-pub fn print_rows<W: Write>(out: &mut W, answer: Answer, rows: &[u8]) -> io::Result<()> {
-    print_text(out, b"roll ")?;
+// The plain run's rows.
+pub fn print_rows<W: Write>(
+    out: &mut W,
+    answer: Result<usize, Refusal>,
+    rows: &[u8],
+) -> io::Result<()> {
+    out.write_all(b"roll ")?;
     match answer {
-        Answer::Gives(n) => {
-            if n <= 256 {
-                print_hex(out, rows, row::WIDTH * n)?;
-            }
-        }
-        Answer::Refused(number, place) => print_refusal(out, number, place)?,
+        Ok(n) => print_hex(out, rows, row::WIDTH.saturating_mul(n))?,
+        Err(refusal) => write!(out, "{refusal}")?,
     }
-    print_text(out, b"\n")
-}
-
-fn same(a: &[u8], b: &[u8]) -> bool {
-    if a.len() != b.len() {
-        return false;
-    }
-    let mut i = 0;
-    while i < a.len() {
-        if a[i] != b[i] {
-            return false;
-        }
-        i += 1;
-    }
-    true
+    out.write_all(b"\n")
 }
 
 // The cells entered, or `differs` where what the grid run left of a blank buffer is not what the plain run left of one.
 pub fn print_cells<W: Write>(
     out: &mut W,
-    answer: GridRolled,
+    answer: Result<GridRoll, Refusal>,
     again: &[u8],
     rows: &[u8],
 ) -> io::Result<()> {
-    print_text(out, b" ")?;
     match answer {
-        GridRolled::Rows { rows: _, cells } => {
-            if same(again, rows) {
-                write!(out, "{cells}")
+        Ok(roll) => {
+            if again == rows {
+                write!(out, " {}", roll.cells)
             } else {
-                print_text(out, b"differs")
+                out.write_all(b" differs")
             }
         }
-        GridRolled::Refused(number, place) => print_refusal(out, number, place),
+        Err(refusal) => write!(out, " {refusal}"),
     }
 }
 
-// The ids of a cell, of at most 256 tracks.
-pub fn print_ids<W: Write>(out: &mut W, answer: Answer, ids: &[u8]) -> io::Result<()> {
-    print_text(out, b" ")?;
+// The ids of a cell.
+pub fn print_ids<W: Write>(
+    out: &mut W,
+    answer: Result<usize, Refusal>,
+    ids: &[u8],
+) -> io::Result<()> {
+    out.write_all(b" ")?;
     match answer {
-        Answer::Gives(n) => {
-            if n <= 256 {
-                print_hex(out, ids, 2 * n)
-            } else {
-                Ok(())
-            }
-        }
-        Answer::Refused(number, place) => print_refusal(out, number, place),
+        Ok(n) => print_hex(out, ids, n.saturating_mul(2)),
+        Err(refusal) => write!(out, "{refusal}"),
     }
 }

@@ -9,8 +9,6 @@ mod layers;
 mod lookup;
 mod sheets;
 
-ghost use Rattle.std.specs.Prelude.{◌<◌};
-
 use std::io;
 use std::io::{Read, Write};
 
@@ -18,19 +16,11 @@ use std::io::{Read, Write};
 const FRAME: usize = 65536;
 
 fn answer<W: Write>(out: &mut W, kind: u8, s: &[u8]) -> io::Result<()> {
-    if kind == 0 {
-        sheets::answer(out, s)
-    } else if kind == 1 {
-        handed::answer(out, s)
-    } else {
-        lookup::answer(out, s)
+    match kind {
+        0 => sheets::answer(out, s),
+        1 => handed::answer(out, s),
+        _ => lookup::answer(out, s),
     }
-}
-
-fn length_of(low: u8, high: u8) -> usize
-    ensures { result < 65536 }
-{
-    (low as usize) + 256 * (high as usize)
 }
 
 // One frame: answers whether there was one.
@@ -40,7 +30,8 @@ fn frame<R: Read, W: Write>(from: &mut R, out: &mut W, buf: &mut [u8]) -> io::Re
     if got < 3 {
         return Ok(false);
     }
-    let n = length_of(head[1], head[2]);
+    let [kind, low, high] = head;
+    let n = usize::from(u16::from_le_bytes([low, high]));
     if buf.len() < n {
         return Ok(false);
     }
@@ -48,7 +39,7 @@ fn frame<R: Read, W: Write>(from: &mut R, out: &mut W, buf: &mut [u8]) -> io::Re
     if have < n {
         return Ok(false);
     }
-    answer(out, head[0], &buf[..n])?;
+    answer(out, kind, &buf[..n])?;
     Ok(true)
 }
 

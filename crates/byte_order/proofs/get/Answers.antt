@@ -11,34 +11,30 @@ pub loop-i-init : goal.loop-i-init
 unfolding le_of
 loop-i-init c =
     let e : c.args.w - c.args.w ≡ 0 = omega arith in
-    (omega arith, rw e)
+    rw e
 
 pub overflow_mul-v : goal.overflow_mul-v
 overflow_mul-v c =
-    let a = c in
-    let l = c.loop-i in
-    let k = le_room a.args.s.now a.args.at a.args.w l.i (slice_bytes a.args.s.now c.type_inv.s) c.loop-i-test.true a.requires.1 in
-    record { fits = omega (arith, l.invariant.1) }
+    let a = c.args in
+    let k = le_room a.s.now a.at a.w c.loop-i.i (slice_bytes a.s.now c.type_inv.s) (omega arith) c.requires.1 in
+    record { fits = omega (arith, c.loop-i.invariant) }
 
 pub overflow_add-v : goal.overflow_add-v
 overflow_add-v c =
-    let a = c in
-    let l = c.loop-i in
-    let k = le_room a.args.s.now a.args.at a.args.w l.i (slice_bytes a.args.s.now c.type_inv.s) c.loop-i-test.true a.requires.1 in
-    record { fits = omega (arith, l.invariant.1, c.wide.ensures.1) }
+    let a = c.args in
+    let k = le_room a.s.now a.at a.w c.loop-i.i (slice_bytes a.s.now c.type_inv.s) (omega arith) c.requires.1 in
+    record { fits = omega (arith, c.loop-i.invariant) }
 
 pub loop-i-preserved : goal.loop-i-preserved
 loop-i-preserved c =
-    let a = c in
-    let l = c.loop-i in
-    (omega arith, rw (c.wide.ensures.0, l.invariant.1) (le_step a.args.s.now a.args.at a.args.w l.i c.loop-i-test.true l.invariant.0))
+    let a = c.args in
+    rw (c.from.ensures, c.loop-i.invariant) (le_step a.s.now a.at a.w c.loop-i.i (omega arith) (omega arith))
 
 pub returns : goal.returns
 returns c =
-    let a = c in
-    let l = c.loop-i in
-    let z : l.i ≡ 0 = omega (arith, c.loop-i-test.false) in
-    let w : a.args.w - 0 ≡ a.args.w = omega arith in
-    let p : a.args.at + 0 ≡ a.args.at = omega arith in
-    let e : l.v ≡ le_of a.args.w a.args.s.now a.args.at = rw (z, w, p) at l.invariant.1 in
-    (e, rw e (le_bound a.args.w a.args.s.now a.args.at (slice_bytes a.args.s.now c.type_inv.s)))
+    let a = c.args in
+    let z : c.loop-i.i ≡ 0 = omega arith in
+    let w : a.w - 0 ≡ a.w = omega arith in
+    let p : a.at + 0 ≡ a.at = omega arith in
+    let e : c.loop-i.v ≡ le_of a.w a.s.now a.at = rw (z, w, p) at c.loop-i.invariant in
+    (e, rw e (le_bound a.w a.s.now a.at (slice_bytes a.s.now c.type_inv.s)))

@@ -1,16 +1,15 @@
--- From 128 on, −1 − (255 − b).
-use borrow.Author.Tests.{lt-ltb, le-ltb}
+-- The cast gives the number.
+use Rattle.std.proofs.lemmas.Int.{of_z-to_z}
 use native.Mathlib.Omega.{arith}
-use Prim.Native.Nat.{◌-◌}
-use lib.IntN.{pos}
+use mathlib.Core.Path.{◌≡◌, ap, ◌∙◌}
+use lib.IntN.{ℤ}
+use mir.Syntax.{w8}
+use mir.Val.{of_z, to_z}
 use Rattle.byte_order.specs.Bytes.{signed_of}
-use Rattle.byte_order.proofs.Complement.{flips}
+use Rattle.byte_order.proofs.Complement.{signed_is}
 use Rattle.byte_order.proofs.signed.Goals as goal
 
-pub returns-then-b-lt128 : goal.returns-then-b-lt128
-unfolding signed_of
-returns-then-b-lt128 c = simp (lt-ltb _ _ c.if-b-lt128.true)
-
-pub returns-else-b-lt128 : goal.returns-else-b-lt128
-unfolding signed_of
-returns-else-b-lt128 c = simp (le-ltb _ _ c.if-b-lt128.false) (flips {z = pos (255 - c.args.b)} (record { sfits = omega arith }))
+pub returns : goal.returns
+returns c =
+    let e : to_z w8 (of_z w8 (to_z w8 c.args.b)) ≡ signed_of c.args.b = rw (of_z-to_z w8 c.args.b (omega arith)) (signed_is c.args.b) in
+    ap (λ (z : ℤ). to_z w8 (of_z w8 z)) c.cast_signed.ensures ∙ e

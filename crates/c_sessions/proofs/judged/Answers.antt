@@ -1,22 +1,15 @@
--- Each way out by one law.
-use mathlib.Core.Path.{sym, ap, ◌∙◌}
-use Rattle.sheet.specs.Returned.{verdict}
+-- The sheet is judged first, then the session.
+use borrow.Author.Rules.{rules}
 use Rattle.c_sessions.proofs.Stepped.{not_accepted, short, enough}
 use Rattle.c_sessions.proofs.judged.Goals as goal
 
+pub returns-in_err-sheet : goal.returns-in_err-sheet
+returns-in_err-sheet c = let h = not_accepted c.args.s.now c.args.session.now c.in_err-sheet.ensures in search rules
+
 pub returns-then-session-lt-SIZE : goal.returns-then-session-lt-SIZE
-returns-then-session-lt-SIZE c =
-    let z = c.args in
-    short z.s.now z.session.now (sym c.scan-verdict.ensures ∙ ap verdict c.in-Accepted.is) c.if-session-lt-SIZE.true
+returns-then-session-lt-SIZE c = short c.args.s.now c.args.session.now c.in_ok-sheet.ensures.accepts c.if-session-lt-SIZE.true
 
-pub returns-in-Refused : goal.returns-in-Refused
-returns-in-Refused c =
-    let z = c.args in
-    let e = ap verdict c.in-Refused.is in
-    e ∙ not_accepted z.s.now z.session.now (sym c.scan-verdict.ensures ∙ e)
-
-pub returns-else-session-lt-SIZE : goal.returns-else-session-lt-SIZE
-returns-else-session-lt-SIZE c =
-    let z = c.args in
-    let e = ap verdict c.in-Accepted.is in
-    e ∙ enough z.s.now z.session.now (sym c.scan-verdict.ensures ∙ e) c.if-session-lt-SIZE.false
+pub returns : goal.returns
+returns c =
+    let q = c.in_ok-sheet.ensures in
+    record { accepts = enough c.args.s.now c.args.session.now q.accepts c.if-session-lt-SIZE.false; handed = q.handed; same = q.same }

@@ -1,41 +1,28 @@
 -- `ages_of` meets its contract.
-use mathlib.Core.Path.{◌∙◌}
 use Rattle.fraction.proofs.Bounds.{reads}
-use Rattle.contact.proofs.Tracks.{speed, Seen, seen_zero, seen_off, seen_reach, seen_pair}
-use Rattle.contact.proofs.Lines.{gone-reach, ages_line, ages-cross}
+use mathlib.Core.Path.{◌∙◌}
+use Rattle.contact.proofs.Tracks.{seen_zero, seen_off, seen_reach, seen_pair}
+use Rattle.contact.proofs.Lines.{ages_line, ages-cross}
 use Rattle.contact.proofs.ages_of.Goals as goal
 
-pub returns-then-d-eq0 : goal.returns-then-d-eq0
-returns-then-d-eq0 c =
-    let s : Seen c.args.a c.args.b c.gap-dx.result c.gap-dy.result c.speed-ux.result c.speed-uy.result c.speed-vx.result c.speed-vy.result c.cross-d.result =
-    record {
-      x_is = reads c.gap-dx.ensures tt;
-      y_is = reads c.gap-dy.ensures tt;
-      ux_is = speed c.args.a.vx c.requires.0.vx_in c.speed-ux.ensures;
-      uy_is = speed c.args.a.vy c.requires.0.vy_in c.speed-uy.ensures;
-      vx_is = speed c.args.b.vx c.requires.1.vx_in c.speed-vx.ensures;
-      vy_is = speed c.args.b.vy c.requires.1.vy_in c.speed-vy.ensures;
-      d_is = c.cross-d.ensures;
-    } in
-    let t = c.args in
-    let x = reads c.gap.ensures tt in
-    let y = reads c.gap-then-d-eq0.ensures tt in
-    let k = reads c.gap-k.ensures tt in
-    let far = rw (x, y, s.vx_is, s.vy_is) at c.reach-far.ensures.0 ∙ gone-reach t.b t.a in
+pub returns-then-den-eq0 : goal.returns-then-den-eq0
+returns-then-den-eq0 c =
+    let a = c.args.a in
+    let b = c.args.b in
+    let d = c.between-d.ensures in
+    let u = c.speed-u.ensures in
+    let v = c.speed-v.ensures in
+    let near = seen_reach a b d u c.reach-near.ensures.0 in
+    let far = seen_reach b a c.between.ensures v c.reach-far.ensures.0 in
     let r = c.on_line.ensures in
-    (rw (s.x_is, s.y_is, s.ux_is, s.uy_is, s.vx_is, s.vy_is, k) at r.0 ∙ ages_line _ _ (seen_zero s c.if-d-eq0.true) (seen_reach s c.reach-near.ensures.0) far, r.1)
+    (rw (d.0, d.1, u.0, u.1, v.0, v.1, reads c.gap-k.ensures tt) at r.0 ∙ ages_line a b (seen_zero a b d u v c.cross-den.ensures c.if-den-eq0.true) near far, r.1)
 
 pub returns : goal.returns
 returns c =
-    let s : Seen c.args.a c.args.b c.gap-dx.result c.gap-dy.result c.speed-ux.result c.speed-uy.result c.speed-vx.result c.speed-vy.result c.cross-d.result =
-    record {
-      x_is = reads c.gap-dx.ensures tt;
-      y_is = reads c.gap-dy.ensures tt;
-      ux_is = speed c.args.a.vx c.requires.0.vx_in c.speed-ux.ensures;
-      uy_is = speed c.args.a.vy c.requires.0.vy_in c.speed-uy.ensures;
-      vx_is = speed c.args.b.vx c.requires.1.vx_in c.speed-vx.ensures;
-      vy_is = speed c.args.b.vy c.requires.1.vy_in c.speed-vy.ensures;
-      d_is = c.cross-d.ensures;
-    } in
+    let a = c.args.a in
+    let b = c.args.b in
+    let d = c.between-d.ensures in
+    let u = c.speed-u.ensures in
+    let v = c.speed-v.ensures in
     let r = c.crossing.ensures in
-    (ages-cross _ _ (seen_off s c.if-d-eq0.false) (seen_pair s r.0), r.1)
+    (ages-cross a b (seen_off a b d u v c.cross-den.ensures c.if-den-eq0.false) (seen_pair a b d u v c.cross-den.ensures r.0), r.1)

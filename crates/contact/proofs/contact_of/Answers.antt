@@ -1,15 +1,29 @@
 -- `contact_of` meets its contract.
-use mathlib.Core.Path.{sym, ◌∙◌, ap, subst}
-use Rattle.rule.specs.Contact.{ordered}
-use Rattle.contact.specs.Answers.{times_of, PairTimely}
+use mathlib.Core.Path.{refl, sym, ◌∙◌}
+use Rattle.contact.proofs.Answers.{pair_young, moved_timely, ordered_none, ordered_yes, ordered_no}
 use Rattle.contact.proofs.Lines.{contact_is}
 use Rattle.contact.proofs.contact_of.Goals as goal
 
-pub returns-in-Apart : goal.returns-in-Apart
-returns-in-Apart c =
-    (ap times_of (sym c.in-Apart.is) ∙ c.in_order.ensures.0 ∙ ap ordered c.shift.ensures.0 ∙ contact_is _ _ c.ages_of.ensures.0, tt, tt)
+pub returns-in_err-age : goal.returns-in_err-age
+returns-in_err-age c =
+    rw c.from_residual.ensures (ordered_none _ _ c.in_err-age.was c.ages_of.ensures.0 ∙ contact_is _ _ refl, tt, tt)
 
-pub returns-in-Both : goal.returns-in-Both
-returns-in-Both c =
-    let e = c.in-Both.is in
-    (ap times_of (sym e) ∙ c.in_order.ensures.0 ∙ ap ordered c.shift.ensures.0 ∙ contact_is _ _ c.ages_of.ensures.0, subst PairTimely e c.in_order.ensures.1, c.track_side-side.ensures)
+pub returns-then-not_later : goal.returns-then-not_later
+returns-then-not_later c =
+    let e = c.in_ok-age.was in
+    let y = c.ages_of.ensures.1 in
+    let (h, k) = pair_young e y in
+    let (p, q) = c.requires in
+    let a = moved_timely _ h p.start_in c.later-at.ensures in
+    let b = moved_timely _ k q.start_in c.later-there.ensures in
+    (ordered_yes _ _ e c.ages_of.ensures.0 y c.later-at.ensures c.later-there.ensures a b (sym c.not_later.ensures ∙ c.if-not_later.true) ∙ contact_is _ _ refl, (a, b), c.track_side-side.ensures)
+
+pub returns : goal.returns
+returns c =
+    let e = c.in_ok-age.was in
+    let y = c.ages_of.ensures.1 in
+    let (h, k) = pair_young e y in
+    let (p, q) = c.requires in
+    let a = moved_timely _ h p.start_in c.later-at.ensures in
+    let b = moved_timely _ k q.start_in c.later-there.ensures in
+    (ordered_no _ _ e c.ages_of.ensures.0 y c.later-at.ensures c.later-there.ensures a b (sym c.not_later.ensures ∙ c.if-not_later.false) ∙ contact_is _ _ refl, tt, tt)

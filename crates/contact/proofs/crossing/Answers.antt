@@ -1,36 +1,22 @@
 -- `crossing` meets its contract.
 use mir.Syntax.{w64}
 use Rattle.fraction.proofs.Bounds.{back, reads}
-use Rattle.contact.proofs.Answers.{asked_never, asked_at, pair_first, pair_second, pair_hit}
+use Rattle.contact.proofs.Answers.{asked_none, asked_some, pair_first, pair_second, pair_hit}
 use Rattle.contact.proofs.crossing.Goals as goal
 
-pub returns-in-Never : goal.returns-in-Never
-returns-in-Never c =
-    let p = c.requires in
-    let d = back w64 p.6 tt in
-    let k = c.cross.ensures in
-    let n = reads (rw (back w64 p.0 tt, back w64 p.1 tt, back w64 p.4 tt, back w64 p.5 tt) at k.0, k.1) tt in
-    (pair_first _ _ (asked_never n d c.quotient.ensures c.in-Never.is), tt)
+pub returns-in_err-own : goal.returns-in_err-own
+returns-in_err-own c =
+    rw c.from_residual.ensures (pair_first _ _ (asked_none (reads c.cross.ensures tt) (back w64 c.requires tt) c.quotient.ensures c.in_err-own.was), tt)
 
-pub returns-in-Never-quotient : goal.returns-in-Never-quotient
-returns-in-Never-quotient c =
-    let p = c.requires in
-    let d = back w64 p.6 tt in
-    let k = c.cross.ensures in
-    let n = reads (rw (back w64 p.0 tt, back w64 p.1 tt, back w64 p.4 tt, back w64 p.5 tt) at k.0, k.1) tt in
-    let l = c.cross-in-At.ensures in
-    let m = reads (rw (back w64 p.0 tt, back w64 p.1 tt, back w64 p.2 tt, back w64 p.3 tt) at l.0, l.1) tt in
-    let h = asked_at n d c.quotient.ensures c.in-At.is in
-    (pair_second _ _ h (asked_never m d c.quotient-in-At.ensures c.in-Never-quotient.is), tt)
+pub returns-in_err-other : goal.returns-in_err-other
+returns-in_err-other c =
+    let d = back w64 c.requires tt in
+    let h = asked_some (reads c.cross.ensures tt) d c.quotient.ensures c.in_ok-own.was in
+    rw c.from_residual-in_err-other.ensures (pair_second _ _ h (asked_none (reads c.cross-2.ensures tt) d c.quotient-2.ensures c.in_err-other.was), tt)
 
-pub returns-in-At-quotient : goal.returns-in-At-quotient
-returns-in-At-quotient c =
-    let p = c.requires in
-    let d = back w64 p.6 tt in
-    let k = c.cross.ensures in
-    let n = reads (rw (back w64 p.0 tt, back w64 p.1 tt, back w64 p.4 tt, back w64 p.5 tt) at k.0, k.1) tt in
-    let l = c.cross-in-At.ensures in
-    let m = reads (rw (back w64 p.0 tt, back w64 p.1 tt, back w64 p.2 tt, back w64 p.3 tt) at l.0, l.1) tt in
-    let h = asked_at n d c.quotient.ensures c.in-At.is in
-    let s = asked_at m d c.quotient-in-At.ensures c.in-At-quotient.is in
+pub returns : goal.returns
+returns c =
+    let d = back w64 c.requires tt in
+    let h = asked_some (reads c.cross.ensures tt) d c.quotient.ensures c.in_ok-own.was in
+    let s = asked_some (reads c.cross-2.ensures tt) d c.quotient-2.ensures c.in_ok-other.was in
     (pair_hit _ _ h s, (h.young, s.young))

@@ -7,28 +7,23 @@ use Rattle.contact.proofs.Answers.{asked}
 use Rattle.contact.proofs.Lines.{gone-off, gone-x, gone-y}
 use Rattle.contact.proofs.reach.Goals as goal
 
-pub returns-then-vx-eq0 : goal.returns-then-vx-eq0
-returns-then-vx-eq0 c =
-    let p = c.requires in
-    let m = c.cross-m.ensures in
-    let e = rw (back w64 p.0 tt, back w64 p.1 tt, back w64 p.2 tt, back w64 p.3 tt) at m.0 in
-    let z = sym e ∙ zero_yes m.1 tt c.if-m-eq0.true in
-    let v = zero_yes p.2 tt c.if-vx-eq0.true in
+pub returns-then-cross-ne0 : goal.returns-then-cross-ne0
+returns-then-cross-ne0 c = (gone-off _ _ _ _ (λ z. zero_no _ c.if-cross-ne0.true (c.cross.ensures.0 ∙ z)), tt)
+
+pub returns-then-v-eq0 : goal.returns-then-v-eq0
+returns-then-v-eq0 c =
+    let d = c.args.d in
+    let v = c.args.v in
+    let m = c.cross.ensures in
+    let z = sym m.0 ∙ zero_yes m.1 tt c.if-cross-ne0.false in
     let r = c.quotient.ensures in
-    (asked (back w64 p.1 tt) (back w64 p.3 tt) c.quotient.result r.0 ∙ gone-y _ _ _ _ z v, r.1)
+    (asked (back w64 d.y_in tt) (back w64 v.y_in tt) c.quotient.result r.0 ∙ gone-y _ _ _ _ z (zero_yes v.x_in tt c.if-v-eq0.true), r.1)
 
-pub returns-then-m-eq0 : goal.returns-then-m-eq0
-returns-then-m-eq0 c =
-    let p = c.requires in
-    let m = c.cross-m.ensures in
-    let e = rw (back w64 p.0 tt, back w64 p.1 tt, back w64 p.2 tt, back w64 p.3 tt) at m.0 in
-    let z = sym e ∙ zero_yes m.1 tt c.if-m-eq0.true in
-    let r = c.quotient-then-m-eq0.ensures in
-    (asked (back w64 p.0 tt) (back w64 p.2 tt) c.quotient-then-m-eq0.result r.0 ∙ gone-x _ _ _ _ z (zero_no _ c.if-vx-eq0.false), r.1)
-
-pub returns : goal.returns
-returns c =
-    let p = c.requires in
-    let m = c.cross-m.ensures in
-    let e = rw (back w64 p.0 tt, back w64 p.1 tt, back w64 p.2 tt, back w64 p.3 tt) at m.0 in
-    (gone-off _ _ _ _ (λ z. zero_no _ c.if-m-eq0.false (e ∙ z)), tt)
+pub returns-else-v-eq0 : goal.returns-else-v-eq0
+returns-else-v-eq0 c =
+    let d = c.args.d in
+    let v = c.args.v in
+    let m = c.cross.ensures in
+    let z = sym m.0 ∙ zero_yes m.1 tt c.if-cross-ne0.false in
+    let r = c.quotient-else-v-eq0.ensures in
+    (asked (back w64 d.x_in tt) (back w64 v.x_in tt) c.quotient-else-v-eq0.result r.0 ∙ gone-x _ _ _ _ z (zero_no _ c.if-v-eq0.false), r.1)

@@ -1,13 +1,15 @@
 -- `wall_of` meets its contract.
-use mathlib.Core.Path.{sym, ap, subst, ◌∙◌}
-use Rattle.contact.specs.Answers.{quot_of, MomentTimely}
+use mathlib.Core.Path.{refl, ◌∙◌}
+use Rattle.contact.proofs.Answers.{was_none, was_some, open_none, open_at, moved_timely}
 use Rattle.contact.proofs.Lines.{wall_is}
 use Rattle.contact.proofs.wall_of.Goals as goal
 
-pub returns-in-Never : goal.returns-in-Never
-returns-in-Never c = (ap quot_of (sym c.in-Never.is) ∙ c.opened.ensures.0 ∙ wall_is _ _ c.wall_age.ensures.0, tt, tt)
+pub returns-in_err-age : goal.returns-in_err-age
+returns-in_err-age c =
+    rw c.from_residual.ensures (open_none _ (was_none c.in_err-age.was refl) ∙ wall_is _ _ c.wall_age.ensures.0, tt, tt)
 
-pub returns-in-At : goal.returns-in-At
-returns-in-At c =
-    let e = c.in-At.is in
-    (ap quot_of (sym e) ∙ c.opened.ensures.0 ∙ wall_is _ _ c.wall_age.ensures.0, subst MomentTimely e c.opened.ensures.1, c.wall_side-side.ensures)
+pub returns : goal.returns
+returns c =
+    let h = was_some c.in_ok-age.was refl c.wall_age.ensures.1 in
+    let r = c.later-at.ensures in
+    (open_at _ h r ∙ wall_is _ _ c.wall_age.ensures.0, moved_timely _ h.young c.requires.0.start_in r, c.wall_side-side.ensures)

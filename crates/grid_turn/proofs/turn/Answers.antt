@@ -1,35 +1,36 @@
 -- `turn` deals with each kind of event.
-use mathlib.Core.Logic.{inr}
-use mathlib.Core.Path.{refl}
-use native.Mathlib.Omega.{arith}
-use borrow.Author.Rules.{rules}
-use Rattle.grid_turn.specs.Turned.{no_row}
-use Rattle.grid_turn.proofs.Turns.{figure_some, popped_is, enter_asks, turn-entered, wall_asks, turn_walled, edge_asks, turn-left, reach_asks, turn_reached}
+use Rattle.grid_turn.proofs.Turns.{enter_asks, turn-entered, wall_asks, turn_walled, edge_asks, turn-left, reach_asks, turn_reached}
 use Rattle.grid_turn.proofs.turn.Goals as goal
 
-pub nonzero_div-side : goal.nonzero_div-side
-nonzero_div-side c = omega (arith, figure_some c.requires.1.holds.figure)
-
 pub enter-requires : goal.enter-requires
-enter-requires c = (c.requires.0, enter_asks c.requires.1 (popped_is c.in-Tip.is c.pop.ensures) c.in-Cell.is)
+enter-requires c = enter_asks c.requires.0 c.in_ok-i.ensures c.in-Cell.is
 
-pub reach-k-requires : goal.reach-k-requires
-reach-k-requires c = (c.requires.0, reach_asks c.requires.1 (popped_is c.in-Tip.is c.pop.ensures) c.in-Track.is, c.requires.2)
+pub reach-requires : goal.reach-requires
+reach-requires c = (reach_asks c.requires.0 c.in_ok-i.ensures c.in-Track.is, c.requires.1)
 
 pub end_tip-requires : goal.end_tip-requires
-end_tip-requires c = (c.requires.0, c.requires.1.tips_room, wall_asks c.requires.1 (popped_is c.in-Tip.is c.pop.ensures) c.in-Wall.is, c.requires.2)
+end_tip-requires c = (wall_asks c.requires.0 c.in_ok-i.ensures c.in-Wall.is, c.requires.1)
 
 pub end_tip-requires-in-Edge : goal.end_tip-requires-in-Edge
-end_tip-requires-in-Edge c = (c.requires.0, c.requires.1.tips_room, edge_asks c.requires.1 (popped_is c.in-Tip.is c.pop.ensures) c.in-Edge.is, c.requires.2)
+end_tip-requires-in-Edge c = (edge_asks c.requires.0 c.in_ok-i.ensures c.in-Edge.is, c.requires.1)
 
-pub returns-in-Cell : goal.returns-in-Cell
-returns-in-Cell c = record { swept = turn-entered c.requires.1 (popped_is c.in-Tip.is c.pop.ensures) c.in-Cell.is c.enter.ensures; wrote = no_row (inr refl) refl }
+pub returns-in-Cell-clause-turned : goal.returns-in-Cell-clause-turned
+returns-in-Cell-clause-turned c = turn-entered c.requires.0 c.in_ok-i.ensures c.in-Cell.is c.enter.ensures
 
-pub returns-in-Track : goal.returns-in-Track
-returns-in-Track c = let p = turn_reached c.requires.1 (popped_is c.in-Tip.is c.pop.ensures) c.in-Track.is c.reach-k.ensures in record { swept = p.0; wrote = p.1 }
+pub returns-in-Track-clause-turned : goal.returns-in-Track-clause-turned
+returns-in-Track-clause-turned c = (turn_reached c.requires.0 c.in_ok-i.ensures c.in-Track.is c.reach.ensures.reached c.reach.ensures.same_marks).0
 
-pub returns-in-Wall : goal.returns-in-Wall
-returns-in-Wall c = let p = turn_walled c.requires.1 (popped_is c.in-Tip.is c.pop.ensures) c.in-Wall.is c.end_tip.ensures (search rules) in record { swept = p.0; wrote = p.1 }
+pub returns-in-Track-clause-wrote : goal.returns-in-Track-clause-wrote
+returns-in-Track-clause-wrote c = (turn_reached c.requires.0 c.in_ok-i.ensures c.in-Track.is c.reach.ensures.reached c.reach.ensures.same_marks).1
 
-pub returns-in-Edge : goal.returns-in-Edge
-returns-in-Edge c = let p = turn-left c.requires.1 (popped_is c.in-Tip.is c.pop.ensures) c.in-Edge.is c.end_tip-in-Edge.ensures (search rules) in record { swept = p.0; wrote = p.1 }
+pub returns-in-Wall-clause-turned : goal.returns-in-Wall-clause-turned
+returns-in-Wall-clause-turned c = (turn_walled c.requires.0 c.in_ok-i.ensures c.in-Wall.is c.end_tip.ensures).0
+
+pub returns-in-Wall-clause-wrote : goal.returns-in-Wall-clause-wrote
+returns-in-Wall-clause-wrote c = (turn_walled c.requires.0 c.in_ok-i.ensures c.in-Wall.is c.end_tip.ensures).1
+
+pub returns-in-Edge-clause-turned : goal.returns-in-Edge-clause-turned
+returns-in-Edge-clause-turned c = (turn-left c.requires.0 c.in_ok-i.ensures c.in-Edge.is c.end_tip-in-Edge.ensures).0
+
+pub returns-in-Edge-clause-wrote : goal.returns-in-Edge-clause-wrote
+returns-in-Edge-clause-wrote c = (turn-left c.requires.0 c.in_ok-i.ensures c.in-Edge.is c.end_tip-in-Edge.ensures).1

@@ -1,5 +1,5 @@
 -- Row by row.
-use Prim.Native.Nat.{◌+◌, ◌*◌, ◌-◌, ◌≤◌}
+use Prim.Native.Nat.{◌+◌, ◌*◌, ◌≤◌}
 use Rattle.row.specs.Stored.{rows_in}
 use Rattle.text.specs.Lines.{longest_line}
 use Rattle.page.specs.Rows.{lines_of}
@@ -7,7 +7,4 @@ use Rattle.page.specs.Behind.{Behind}
 use Rattle.page.proofs.put_rows.Given as goal
 
 abbrev pub invariant-loop-k : goal.invariant-loop-k
-invariant-loop-k l = Behind (lines_of (rows_in l.rows l.k)) l.at l.initial.out l.end l.out × (l.end ≤ l.at + longest_line * l.k) × (l.k ≤ l.n)
-
-abbrev pub decreases-loop-k : goal.decreases-loop-k
-decreases-loop-k l = l.n - l.k
+invariant-loop-k l = Behind (lines_of (rows_in l.rows l.k)) l.at l.initial.out l.end l.out × (l.end ≤ l.at + longest_line * l.k)

@@ -15,7 +15,7 @@ overflow_cast-event-then-prior c =
 
 pub returns-then-prior : goal.returns-then-prior
 returns-then-prior c =
-    entry-entered c.args.a c.args.s c.args.k c.args.c c.requires.4 c.next_entry-next.ensures c.prior.ensures c.if-prior.true c.late_of-late.ensures
+    entry-entered c.args.a c.args.s c.args.k c.args.c c.requires.4 c.next_entry-next.ensures c.prior.ensures c.if-prior.true c.late-late.ensures
 
 pub returns : goal.returns
 returns c =

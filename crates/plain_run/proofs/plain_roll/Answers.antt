@@ -1,14 +1,9 @@
--- `plain_roll` rolls records handed in: their fields fit as their types say, so those that the check accepts are ready for the run.
-use mathlib.Core.Path.{sym, ap, ◌∙◌}
-use Rattle.sheet.specs.HandedIn.{handed_in}
-use Rattle.sheet.specs.Returned.{verdict}
+-- `plain_roll` refuses as its sheet is refused.
+use borrow.Author.Rules.{rules}
 use Rattle.plain_run.proofs.Outcome.{as_refused}
-use Rattle.plain_run.proofs.Prepared.{handed_ready}
 use Rattle.plain_run.proofs.plain_roll.Goals as goal
 
-pub rows-requires : goal.rows-requires
-rows-requires c =
-    handed_ready c.args.sheet c.well_formed.0 (sym c.check-v.ensures ∙ ap verdict c.in-Accepted.is)
-
-pub returns-in-Refused : goal.returns-in-Refused
-returns-in-Refused c = as_refused (handed_in c.args.sheet) c.args.out.now _ _ (sym c.check-v.ensures ∙ ap verdict c.in-Refused.is)
+pub returns-in_err-sheet : goal.returns-in_err-sheet
+returns-in_err-sheet g c =
+    let f = as_refused (g.S.Source.records c.args.from) c.args.out.now _ c.in_err-sheet.ensures in
+    search rules

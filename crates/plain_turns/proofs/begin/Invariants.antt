@@ -1,12 +1,8 @@
 -- `begin` finds the first causes. The invariant: the tips so far have theirs.
-use Prim.Native.Nat.{◌≤◌, ◌-◌}
-use Rattle.records.specs.Records.{sheet_in}
-use Rattle.tips.specs.Tips.{Room, tips_in}
 use Rattle.plain_turns.specs.State.{Begun}
+use Rattle.records.specs.SheetIn.{sheet_in}
+use Rattle.tips.specs.Tips.{tips_in}
 use Rattle.plain_turns.proofs.begin.Given as goal
 
 abbrev pub invariant-loop-i : goal.invariant-loop-i
-invariant-loop-i l = (l.i ≤ l.n) × Room l.tips × Begun (sheet_in l.records) (tips_in l.tips) l.i
-
-abbrev pub decreases-loop-i : goal.decreases-loop-i
-decreases-loop-i l = l.n - l.i
+invariant-loop-i l = Begun (sheet_in l.fn.records) (tips_in l.tips) l.i

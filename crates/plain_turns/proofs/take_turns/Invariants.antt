@@ -1,16 +1,12 @@
 -- `take_turns` writes the roll. The invariant: the rows so far are written, and the tips are in the state of as many rows.
 use mathlib.Core.Path.{◌≡◌}
-use Prim.Native.Nat.{◌≤◌, ◌-◌}
 use lib.ListN.{length, take}
 use Rattle.rule.specs.Selection.{roll_of}
 use Rattle.row.specs.Written.{Written}
-use Rattle.records.specs.Records.{sheet_in}
-use Rattle.tips.specs.Tips.{Room, tips_in}
 use Rattle.plain_turns.specs.State.{State}
+use Rattle.records.specs.SheetIn.{sheet_in}
+use Rattle.tips.specs.Tips.{tips_in}
 use Rattle.plain_turns.proofs.take_turns.Given as goal
 
 abbrev pub invariant-loop-k : goal.invariant-loop-k
-invariant-loop-k l = (l.k ≤ l.n) × Room l.tips × State (sheet_in l.records) l.k (tips_in l.tips) × Written (take l.k (roll_of (sheet_in l.records))) l.initial.out l.out × (length l.out ≡ length l.initial.out)
-
-abbrev pub decreases-loop-k : goal.decreases-loop-k
-decreases-loop-k l = l.n - l.k
+invariant-loop-k l = State (sheet_in l.fn.records) l.k (tips_in l.tips) × Written (take l.k (roll_of (sheet_in l.fn.records))) l.fn.out l.out × (length l.out ≡ length l.fn.out)

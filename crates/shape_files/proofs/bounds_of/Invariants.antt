@@ -4,12 +4,8 @@ use Rattle.shape_records.specs.Shapes.{bounds_of}
 use Rattle.shape_files.proofs.Closed.{Narrows}
 use Rattle.shape_files.specs.Boxing.{inverted}
 use Rattle.shape_files.proofs.Run.{so_far}
-use Prim.Native.Nat.{◌≤◌, ◌-◌}
 use mathlib.Core.Path.{◌≡◌}
 use Rattle.shape_files.proofs.bounds_of.Given as goal
 
-abbrev pub invariant-loop-i : goal.invariant-loop-i
-invariant-loop-i l = (l.i ≤ l.n) × Narrows (so_far l.layer l.passages l.i) × (l.b ≡ bounds_of (widest inverted (so_far l.layer l.passages l.i)))
-
-abbrev pub decreases-loop-i : goal.decreases-loop-i
-decreases-loop-i l = l.n - l.i
+abbrev pub invariant-loop-p : goal.invariant-loop-p
+invariant-loop-p l = Narrows (so_far l.layer l.passages l.p-index) × (l.b ≡ bounds_of (widest inverted (so_far l.layer l.passages l.p-index)))

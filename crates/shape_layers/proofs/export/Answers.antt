@@ -1,4 +1,5 @@
 -- The roll, the ways of its tips, and their file.
+use native.Mathlib.Omega.{arith}
 use Rattle.sheet.specs.HandedIn.{handed_in}
 use Rattle.shape_layers.proofs.Outcome.{of_ways}
 use Rattle.shape_layers.proofs.export.Goals as goal

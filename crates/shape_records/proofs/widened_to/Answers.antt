@@ -5,4 +5,4 @@ use Rattle.shape_records.proofs.widened_to.Goals as goal
 
 pub returns : goal.returns
 unfolding around
-returns c = rw (c.lesser_of-left.ensures, c.lesser_of-low.ensures, c.greater_of-right.ensures, c.greater_of-high.ensures) refl
+returns c = rw (c.lesser_of.ensures, c.lesser_of-2.ensures, c.greater_of.ensures, c.greater_of-2.ensures) refl

@@ -8,14 +8,14 @@ use Rattle.shape_layers.specs.Layers.{layer_file}
 use Rattle.shapes.proofs.Ready.{given, not_given}
 use Rattle.shapes.proofs.fill.Goals as goal
 
-pub returns-in-Gives : goal.returns-in-Gives
-returns-in-Gives c =
+pub returns-in-Ok : goal.returns-in-Ok
+returns-in-Ok c =
     let a = c.args in
-    let h = c.of_bytes-answer.ensures in
-    given (verdict_of a.sheet.now) (decided a.sheet.now) (layer_file a.layer a.part (listing (commands_of a.sheet.now))) a.out.now _ h.buffer (sym (ap answered c.in-Gives.is) ∙ h.answer)
+    let h = c.layer_file.ensures in
+    given (verdict_of a.sheet.now) (decided a.sheet.now) (layer_file a.layer a.part (listing (commands_of a.sheet.now))) a.out.now _ h.buffer (sym (ap answered c.in-Ok.is) ∙ h.answer)
 
-pub returns-in-Refused : goal.returns-in-Refused
-returns-in-Refused c =
+pub returns-in-Err : goal.returns-in-Err
+returns-in-Err c =
     let a = c.args in
-    let h = c.of_bytes-answer.ensures in
-    not_given (verdict_of a.sheet.now) (decided a.sheet.now) (layer_file a.layer a.part (listing (commands_of a.sheet.now))) a.out.now _ h.buffer (sym (ap answered c.in-Refused.is) ∙ h.answer)
+    let h = c.layer_file.ensures in
+    not_given (verdict_of a.sheet.now) (decided a.sheet.now) (layer_file a.layer a.part (listing (commands_of a.sheet.now))) a.out.now _ h.buffer (sym (ap answered c.in-Err.is) ∙ h.answer)

@@ -1,9 +1,10 @@
 -- The verdict from `at` on, after the commands before it, is the verdict on the whole.
 use borrow.Author.Rules.{rules}
-use mathlib.Core.Path.{sym, ◌∙◌}
+use mathlib.Core.Path.{sym, ap, ◌∙◌}
+use Rattle.sheet_rules.specs.Judged.{line_of}
 use Rattle.sheet_reader.proofs.Items.{end_is, whole-fits}
 use Rattle.sheet_reader.proofs.Turns.{from_unknown, from_cut, from_end, some_width}
-use Rattle.sheet_reader.proofs.Scanning.{scanned_none, one-kind, scanned_refused, scanned_more}
+use Rattle.sheet_reader.proofs.Scanning.{scanned_none, one-kind, scanned_refused, scanned_more, some_line}
 use Rattle.sheet_reader.proofs.scan.Goals as goal
 
 pub loop-c-init : goal.loop-c-init
@@ -27,11 +28,12 @@ returns-in-End c =
     let h = c.loop-c.invariant in
     c.end_at.ensures ∙ sym (from_end _ _ h.before (sym c.item_at-item.ensures ∙ c.in-End.is)) ∙ h.on
 
-pub returns-then-broken : goal.returns-then-broken
-returns-then-broken c =
+pub returns-in-Some : goal.returns-in-Some
+returns-in-Some c =
     let h = c.loop-c.invariant in
     let e = sym c.item_at-item.ensures ∙ c.in-Add.is in
-    scanned_refused h _ e (c.judge_at-broken.ensures h.before h.counts) c.if-broken.true
+    let k = ap line_of (sym c.in-Some.is) ∙ c.broken_at.ensures h.before h.counts in
+    scanned_refused h _ e k (some_line c.in-Some.kind)
 
 pub overflow_add-at : goal.overflow_add-at
 overflow_add-at c =
@@ -66,6 +68,6 @@ pub loop-c-preserved : goal.loop-c-preserved
 loop-c-preserved c =
     let h = c.loop-c.invariant in
     let e = sym c.item_at-item.ensures ∙ c.in-Add.is in
-    let k = c.judge_at-broken.ensures h.before h.counts in
+    let k = c.broken_at.ensures h.before h.counts in
     rw (c.bytes_of-at.ensures, c.of_kind-tracks.ensures, c.of_kind-walls.ensures)
-    (scanned_more h _ e (sym k ∙ c.if-broken.false))
+    (scanned_more h _ e (sym k ∙ ap line_of c.in_default.is))

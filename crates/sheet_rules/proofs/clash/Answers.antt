@@ -1,11 +1,7 @@
--- `clash` meets its contract.
-use Rattle.sheet_rules.specs.Judged.{clash_of}
+-- Of two tracks the bytes that list them play no part.
 use Rattle.sheet_rules.proofs.clash.Goals as goal
 
-pub returns-in-AddWall-d : goal.returns-in-AddWall-d
-unfolding clash_of
-returns-in-AddWall-d c = rw (c.in-AddTrack.is, c.in-AddWall-d.is) c.start_clash.ensures
-
-pub returns-in-AddTrack-d-2 : goal.returns-in-AddTrack-d-2
-unfolding clash_of
-returns-in-AddTrack-d-2 c = rw (c.in-AddWall.is, c.in-AddTrack-d-2.is) c.start_clash-in-AddTrack-d-2.ensures
+pub returns-in-AddTrack-AddTrack : goal.returns-in-AddTrack-AddTrack
+returns-in-AddTrack-AddTrack c =
+    let m = c.in-AddTrack-AddTrack in
+    rw (m.is-0, m.is-1) (c.tracks_clash.ensures m.field-1-0 m.field-1-1)

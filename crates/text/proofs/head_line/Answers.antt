@@ -5,8 +5,8 @@ use Rattle.text.proofs.head_line.Goals as goal
 pub returns : goal.returns
 returns c =
     head_done c.args.tracks c.args.cells
-    c.empty.ensures
-    c.word.ensures
-    c.put_field-left.ensures.0
-    c.word-2.ensures
+    c.empty-line.ensures
+    c.put_word.ensures
     c.put_field.ensures.0
+    c.put_word-2.ensures
+    c.put_field-2.ensures.0

@@ -5,7 +5,7 @@ use Rattle.text.proofs.refusal_line.Goals as goal
 pub returns : goal.returns
 returns c =
     refusal_done c.args.number c.args.place
-    c.empty.ensures
-    c.word.ensures
-    c.put_field-left.ensures.0
+    c.empty-line.ensures
+    c.put_word.ensures
     c.put_field.ensures.0
+    c.put_field-2.ensures.0

@@ -4,7 +4,7 @@ use Rattle.text.proofs.running_line.Goals as goal
 
 pub returns : goal.returns
 returns c =
-    still-done c.args.tracks
-    c.empty.ensures
+    still-done c.args.running
+    c.empty-line.ensures
     c.put_field.ensures.0
-    c.word.ensures
+    c.put_word.ensures
