@@ -14,7 +14,7 @@ ghost use Rattle.sheet.specs.Returned.{accepted, refused, refusal};
 ghost use Rattle.byte_order.specs.Bytes.{le_bytes};
 
 use byte_order::Order;
-use shape_records::{Bounds, INTEGER, POINT, POLYLINE, Point, RECORD_HEADER, Shape};
+use shape_records::{Bounds, INTEGER, POINT, POLYLINE, RECORD_HEADER, Shape};
 use shapefile::{Layer, Part, Passage};
 use sheet::{Refusal, RefusalKind};
 
@@ -53,18 +53,14 @@ const HEADER_WORDS: usize = HEADER / WORD;
 fn shape_of(layer: Layer, p: Passage) -> Shape
     ensures { (result ≡ in_doubles (figure layer p)) × NarrowFigure (figure layer p) }
 {
-    let to = Point {
-        x: doubles::double_of(p.u),
-        y: doubles::double_of(p.v),
-    };
+    let u = doubles::double_of(p.u);
+    let v = doubles::double_of(p.v);
     match layer {
-        Layer::Ends => Shape::End(to),
+        Layer::Ends => Shape::End(u, v),
         Layer::Traces => {
-            let from = Point {
-                x: doubles::double_of(p.x),
-                y: doubles::double_of(p.y),
-            };
-            Shape::Trace(from, to)
+            let x = doubles::double_of(p.x);
+            let y = doubles::double_of(p.y);
+            Shape::Trace(x, y, u, v)
         }
     }
 }

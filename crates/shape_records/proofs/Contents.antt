@@ -14,7 +14,7 @@ use Rattle.shape_records.specs.declared.Shape.TheVariants.{End, Trace}
 use Rattle.shapefile.specs.Extent.{Extent, extent}
 use Rattle.shapefile.specs.Layout.{null_content, line_content}
 use Rattle.shapefile.specs.Figures.{Figure, end, trace, nowhere, points, extent_bytes, content}
-use Rattle.shape_records.specs.Shapes.{point_of, in_doubles, bounds_of, number, bits, lesser, greater, around, still, spanned, bounds_bytes, content_of, PointSound, BoundsSound, Sound, Narrow, NarrowExtent, NarrowFigure}
+use Rattle.shape_records.specs.Shapes.{point_of, in_doubles, bounds_of, number, bits, lesser, greater, point, around, still, spanned, bounds_bytes, content_of, PointSound, BoundsSound, Sound, Narrow, NarrowExtent, NarrowFigure}
 use Rattle.shape_records.proofs.Boxes.{within, still_is, spanned_is, spanned_exact}
 use Rattle.shapefile.proofs.Lengths.{box_length, point_content_length, line_content_length}
 
@@ -81,18 +81,18 @@ pub bounds_length : (b : Bounds) → length (bounds_bytes b) ≡ 32
 unfolding bounds_bytes
 bounds_length b = box_length (bits b.left) (bits b.low) (bits b.right) (bits b.high)
 
-pub end_length : (p : Point) → length (content_of (End p)) ≡ 20
+pub end_length : (x y : Float) → length (content_of (End x y)) ≡ 20
 unfolding content_of
-end_length p = point_content_length (bits p.x) (bits p.y)
+end_length x y = point_content_length (bits x) (bits y)
 
 -- of a trace that goes nowhere, and of any other
-pub still-content : (p q : Point) → still p q ≡ true → content_of (Trace p q) ≡ null_content
+pub still-content : (x y u v : Float) → still (point x y) (point u v) ≡ true → content_of (Trace x y u v) ≡ null_content
 unfolding content_of
-still-content p q e = rw e refl
+still-content x y u v e = rw e refl
 
-pub line_content_lem : (p q : Point) → still p q ≡ false → content_of (Trace p q) ≡ line_content (bounds_bytes (spanned p q)) (bits p.x) (bits p.y) (bits q.x) (bits q.y)
+pub line_content_lem : (x y u v : Float) → still (point x y) (point u v) ≡ false → content_of (Trace x y u v) ≡ line_content (bounds_bytes (spanned (point x y) (point u v))) (bits x) (bits y) (bits u) (bits v)
 unfolding content_of
-line_content_lem p q e = rw e refl
+line_content_lem x y u v e = rw e refl
 
-pub line_length : (p q : Point) → length (line_content (bounds_bytes (spanned p q)) (bits p.x) (bits p.y) (bits q.x) (bits q.y)) ≡ 80
-line_length p q = line_content_length (bounds_bytes (spanned p q)) (bits p.x) (bits p.y) (bits q.x) (bits q.y) (bounds_length (spanned p q))
+pub line_length : (x y u v : Float) → length (line_content (bounds_bytes (spanned (point x y) (point u v))) (bits x) (bits y) (bits u) (bits v)) ≡ 80
+line_length x y u v = line_content_length (bounds_bytes (spanned (point x y) (point u v))) (bits x) (bits y) (bits u) (bits v) (bounds_length (spanned (point x y) (point u v)))

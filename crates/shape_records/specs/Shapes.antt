@@ -17,8 +17,8 @@ abbrev pub point_of : ℕ → ℕ → Point
 point_of x y = record { x = sixtyfourths x; y = sixtyfourths y }
 
 unfoldable pub in_doubles : Figure → Shape
-in_doubles (end x y) = End (point_of x y)
-in_doubles (trace x y u v) = Trace (point_of x y) (point_of u v)
+in_doubles (end x y) = End (sixtyfourths x) (sixtyfourths y)
+in_doubles (trace x y u v) = Trace (sixtyfourths x) (sixtyfourths y) (sixtyfourths u) (sixtyfourths v)
 
 unfoldable pub bounds_of : Extent → Bounds
 bounds_of e =
@@ -57,6 +57,10 @@ lesser a b = cond (lt b a) b a
 unfoldable pub greater : Float → Float → Float
 greater a b = cond (lt a b) b a
 
+-- the point of two doubles of a case
+abbrev pub point : Float → Float → Point
+point x y = record { x = x; y = y }
+
 unfoldable pub around : Bounds → Point → Bounds
 around b p =
     record {
@@ -70,8 +74,8 @@ abbrev pub still : Point → Point → Bool
 still p q = eq p.x q.x && eq p.y q.y
 
 unfoldable pub widen : Bounds → Shape → Bounds
-widen b (End p) = around b p
-widen b (Trace p q) = cond (still p q) b (around (around b p) q)
+widen b (End x y) = around b (point x y)
+widen b (Trace x y u v) = cond (still (point x y) (point u v)) b (around (around b (point x y)) (point u v))
 
 unfoldable pub bounds_bytes : Bounds → List ℕ
 bounds_bytes b = box_bytes (bits b.left) (bits b.low) (bits b.right) (bits b.high)
@@ -81,8 +85,8 @@ unfoldable pub spanned : Point → Point → Bounds
 spanned p q = around (record { left = p.x; low = p.y; right = p.x; high = p.y }) q
 
 unfoldable pub content_of : Shape → List ℕ
-content_of (End p) = point_content (bits p.x) (bits p.y)
-content_of (Trace p q) = cond (still p q) null_content (line_content (bounds_bytes (spanned p q)) (bits p.x) (bits p.y) (bits q.x) (bits q.y))
+content_of (End x y) = point_content (bits x) (bits y)
+content_of (Trace x y u v) = cond (still (point x y) (point u v)) null_content (line_content (bounds_bytes (spanned (point x y) (point u v))) (bits x) (bits y) (bits u) (bits v))
 
 -- no part is a NaN
 pub record PointSound (p : Point) : Type 0 where
@@ -96,5 +100,5 @@ pub record BoundsSound (b : Bounds) : Type 0 where
   pub high : number b.high
 
 unfoldable pub Sound : Shape → Type 0
-Sound (End p) = PointSound p
-Sound (Trace p q) = PointSound p × PointSound q
+Sound (End x y) = PointSound (point x y)
+Sound (Trace x y u v) = PointSound (point x y) × PointSound (point u v)

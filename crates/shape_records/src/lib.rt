@@ -55,17 +55,18 @@ const END_WORDS: u64 = 10;
 
 const TRACE_WORDS: u64 = 40;
 
-#[derive(Clone, Copy)]
-pub struct Point {
-    pub x: f64,
-    pub y: f64,
-}
-
-// An end at a point (SHEETS 12.4), or a trace from one point to another (SHEETS 12.5).
+// An end at a point (SHEETS 12.4), or a trace from one point to another (SHEETS 12.5): x and y of each. The form is fixed (docs/DECISIONS.md, "Forms").
 #[derive(Clone, Copy)]
 pub enum Shape {
-    End(Point),
-    Trace(Point, Point),
+    End(f64, f64),
+    Trace(f64, f64, f64, f64),
+}
+
+// A point of a shape that has been taken apart.
+#[derive(Clone, Copy)]
+struct Point {
+    x: f64,
+    y: f64,
 }
 
 // The box (SHEETS 12.6): least x, least y, greatest x, greatest y.
@@ -114,8 +115,10 @@ pub fn widened(b: Bounds, s: Shape) -> Bounds
     ensures { result ≡ widen b s }
 {
     match s {
-        Shape::End(p) => widened_to(b, p),
-        Shape::Trace(p, q) => {
+        Shape::End(x, y) => widened_to(b, Point { x, y }),
+        Shape::Trace(x, y, u, v) => {
+            let p = Point { x, y };
+            let q = Point { x: u, y: v };
             if is_still(p, q) {
                 b
             } else {
@@ -206,11 +209,13 @@ pub fn put_record(out: &mut [u8], at: usize, n: u64, s: Shape) -> usize
     ensures { (result ≡ at + (8 + length (content_of s))) × (out.new ≡ sets out.old at (record_bytes n (content_of s))) }
 {
     match s {
-        Shape::End(p) => {
-            put_end(out, at, n, p);
+        Shape::End(x, y) => {
+            put_end(out, at, n, Point { x, y });
             at + END_RECORD
         }
-        Shape::Trace(p, q) => {
+        Shape::Trace(x, y, u, v) => {
+            let p = Point { x, y };
+            let q = Point { x: u, y: v };
             if is_still(p, q) {
                 put_head(out, at, n, NULL_WORDS, NULL);
                 at + NULL_RECORD
@@ -227,9 +232,9 @@ pub fn record_size(s: Shape) -> usize
     ensures { (result ≡ 8 + length (content_of s)) × (result ≤ 88) }
 {
     match s {
-        Shape::End(_) => END_RECORD,
-        Shape::Trace(p, q) => {
-            if is_still(p, q) {
+        Shape::End(_, _) => END_RECORD,
+        Shape::Trace(x, y, u, v) => {
+            if is_still(Point { x, y }, Point { x: u, y: v }) {
                 NULL_RECORD
             } else {
                 TRACE_RECORD

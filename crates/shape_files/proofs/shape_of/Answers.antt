@@ -7,8 +7,8 @@ use Rattle.shape_files.proofs.shape_of.Goals as goal
 
 pub returns-in-Ends : goal.returns-in-Ends
 unfolding figure in_doubles NarrowFigure
-returns-in-Ends c = rw (c.in-Ends.is, c.double_of.ensures, c.double_of-2.ensures) (refl, (omega arith, omega arith))
+returns-in-Ends c = rw (c.in-Ends.is, c.double_of-u.ensures, c.double_of-v.ensures) (refl, (omega arith, omega arith))
 
 pub returns-in-Traces : goal.returns-in-Traces
 unfolding figure in_doubles NarrowFigure
-returns-in-Traces c = rw (c.in-Traces.is, c.double_of.ensures, c.double_of-2.ensures, c.double_of-in-Traces.ensures, c.double_of-in-Traces-2.ensures) (refl, ((omega arith, omega arith), (omega arith, omega arith)))
+returns-in-Traces c = rw (c.in-Traces.is, c.double_of-u.ensures, c.double_of-v.ensures, c.double_of-x.ensures, c.double_of-y.ensures) (refl, ((omega arith, omega arith), (omega arith, omega arith)))

@@ -16,14 +16,14 @@ put_end-requires c =
 pub put_head-requires : goal.put_head-requires
 put_head-requires c =
     let t = sym c.is_still.ensures ∙ c.if-is_still.true in
-    let p = rw (c.in-Trace.is, still-content _ _ t, null_content_length) at c.requires in
+    let p = rw (c.in-Trace.is, still-content _ _ _ _ t, null_content_length) at c.requires in
     omega arith
 
 pub put_line-requires : goal.put_line-requires
 unfolding Sound
 put_line-requires c =
     let t = sym c.is_still.ensures ∙ c.if-is_still.false in
-    let p = rw (c.in-Trace.is, line_content_lem _ _ t, line_length) at c.requires in
+    let p = rw (c.in-Trace.is, line_content_lem _ _ _ _ t, line_length) at c.requires in
     (omega arith, p.1)
 
 pub returns-in-End : goal.returns-in-End
@@ -33,9 +33,9 @@ returns-in-End c =
 pub returns-then-is_still : goal.returns-then-is_still
 returns-then-is_still c =
     let t = sym c.is_still.ensures ∙ c.if-is_still.true in
-    rw (c.in-Trace.is, still-content _ _ t, null_content_length) (refl, null_put _ _ _ c.put_head.ensures)
+    rw (c.in-Trace.is, still-content _ _ _ _ t, null_content_length) (refl, null_put _ _ _ c.put_head.ensures)
 
 pub returns-else-is_still : goal.returns-else-is_still
 returns-else-is_still c =
     let t = sym c.is_still.ensures ∙ c.if-is_still.false in
-    rw (c.in-Trace.is, line_content_lem _ _ t, line_length) (refl, c.put_line.ensures)
+    rw (c.in-Trace.is, line_content_lem _ _ _ _ t, line_length) (refl, c.put_line.ensures)
