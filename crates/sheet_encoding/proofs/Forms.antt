@@ -8,7 +8,7 @@ use native.Mathlib.Nat.{mul-le-mul_right}
 use native.Mathlib.Decide.{dec_le}
 use native.Mathlib.Omega.{arith}
 use lib.Dec.{eqb}
-use lib.ListN.{length, take, drop, set, length-append, length-map}
+use lib.ListN.{length, take, drop, set, length-append}
 use lib.Seq.{sets, take_all, take_at, take-append-le, length-take-le}
 use Rattle.byte_order.proofs.Stores.{sets-both, sets_front}
 use Rattle.sheet.specs.declared.Track.{Track}
@@ -22,7 +22,6 @@ use Rattle.sheet.proofs.Format.{encode-length}
 use Rattle.sheet.proofs.Sorted.{sort_perm}
 use Rattle.sheet_sorting.proofs.Insertion.{sort-map}
 use Rattle.sheet_encoding.specs.Run.{run, Ran, id_of}
-use Rattle.sheet_encoding.proofs.Run.{take-map}
 
 run-append : (l k : List Command) → run (l ++ k) ≡ run l ++ run k
 unfolding run
@@ -100,46 +99,36 @@ listed_front l {end} {before} {after} p h =
 
 -- ---- the records of a kind
 
--- more commands claimed than there are: one behind them stands for the others
-module _ (l : List Command) (b : Command) (n : ℕ) (h : length l < n) where
-  pub more_claimed : take n (l ++ (b ∷ [])) ≡ l ++ (b ∷ [])
-  more_claimed = take_all n (l ++ (b ∷ [])) (simp length-append (omega arith))
+-- the records of a kind, each listed by its command; n of them are claimed, `blank` behind them
+module _ {A : Type 0} (f : A → Command) (l : List A) (blank : A) (n : ℕ) where
+  -- more claimed than there are: one behind them stands for the others
+  module _ (h : length l < n) where
+    pub more_claimed : map f (take n (l ++ (blank ∷ []))) ≡ map f l ++ (f blank ∷ [])
+    more_claimed = let e : take n (l ++ (blank ∷ [])) ≡ l ++ (blank ∷ []) = take_all n (l ++ (blank ∷ [])) (simp length-append (omega arith)) in
+        ap (map f) e ∙ map-append f l (blank ∷ [])
 
-  pub more-length : length (run (take n (l ++ (b ∷ [])))) ≡ length (run l) + width b
-  unfolding run
-  more-length = rw (more_claimed, run-append, append-nil) (length-append (run l) (encode b) ∙ ap (λ k. length (run l) + k) (encode-length b))
-
--- a kind's records as commands; n of the records are claimed, `blank` behind them
-module _ {A : Type 0} (f : A → Command) (l : List A) (blank : A) (n : ℕ) {commands : List Command} (e : commands ≡ map f l) where
-  claimed : take n (commands ++ (f blank ∷ [])) ≡ map f (take n (l ++ (blank ∷ [])))
-  claimed = rw (e, ← map-append f l (blank ∷ [])) (take-map f n (l ++ (blank ∷ [])))
-
-  pub claimed_ran : {at end : ℕ} {before after : List ℕ} → Ran at (take n (commands ++ (f blank ∷ []))) before after end
-      → Ran at (map f (take n (l ++ (blank ∷ [])))) before after end
-  claimed_ran {at} {end} {before} {after} h = rw claimed at h
+    pub more-length : length (run (map f (take n (l ++ (blank ∷ []))))) ≡ length (run (map f l)) + width (f blank)
+    unfolding run
+    more-length = rw (more_claimed, run-append, append-nil)
+        (length-append (run (map f l)) (encode (f blank)) ∙ ap (λ k. length (run (map f l)) + k) (encode-length (f blank)))
 
   -- each record's command has at most w bytes
-  pub claimed_length : (w : ℕ) → ((a : A) → width (f a) ≤ w) → length (run (take n (commands ++ (f blank ∷ [])))) ≤ length l * w + width (f blank)
+  pub claimed_length : (w : ℕ) → ((a : A) → width (f a) ≤ w) → length (run (map f (take n (l ++ (blank ∷ []))))) ≤ length l * w + width (f blank)
   claimed_length w most = go (dec_le n (length l))
     where
-      size : length commands ≡ length l
-      size = simp length-map at (ap length e)
-
-      go : Dec (n ≤ length l) → length (run (take n (commands ++ (f blank ∷ [])))) ≤ length l * w + width (f blank)
+      go : Dec (n ≤ length l) → length (run (map f (take n (l ++ (blank ∷ []))))) ≤ length l * w + width (f blank)
       go (yes h) =
           let k : length (take n l) ≤ length l = omega (arith, length-take-le n l h) in
-          rw (claimed, take-append-le n l (blank ∷ []) h) (omega (arith, run-most f w most (take n l), mul-le-mul_right w k))
-      go (no h) =
-          let r : length (run commands) ≤ length l * w = rw e (run-most f w most l) in
-          omega (arith, more-length commands (f blank) n (omega (arith, size)))
+          rw (take-append-le n l (blank ∷ []) h) (omega (arith, run-most f w most (take n l), mul-le-mul_right w k))
+      go (no h) = let r = run-most f w most l in omega (arith, more-length (omega arith))
 
   module _ (h : n ≤ length l) where
-    sorted : sort_by id_of (take n commands) ≡ map f (sort_by (λ a. id_of (f a)) (take n (l ++ (blank ∷ []))))
-    sorted = rw (e, take-map f n l, sort-map id_of f, take-append-le n l (blank ∷ []))
+    pub sorted : sort_by id_of (map f (take n l)) ≡ map f (sort_by (λ a. id_of (f a)) (take n (l ++ (blank ∷ []))))
+    sorted = rw (sort-map id_of f, take-append-le n l (blank ∷ [])) refl
 
-    pub sorted_ran : {at end : ℕ} {before after : List ℕ} → Ran at (sort_by id_of (take n commands)) before after end
+    pub sorted_ran : {at end : ℕ} {before after : List ℕ} → Ran at (sort_by id_of (map f (take n l))) before after end
         → Ran at (map f (sort_by (λ a. id_of (f a)) (take n (l ++ (blank ∷ []))))) before after end
     sorted_ran {at} {end} {before} {after} g = rw sorted at g
 
-    pub sorted-length : length (run (sort_by id_of (take n commands))) ≡ length (run (map f (sort_by (λ a. id_of (f a)) (take n (l ++ (blank ∷ []))))))
+    pub sorted-length : length (run (sort_by id_of (map f (take n l)))) ≡ length (run (map f (sort_by (λ a. id_of (f a)) (take n (l ++ (blank ∷ []))))))
     sorted-length = ap (λ k. length (run k)) sorted
