@@ -5,11 +5,10 @@ use mathlib.Core.Bool.{Bool, true, false}
 use mathlib.Core.List.{List, [], ◌∷◌}
 use Prim.Native.Nat.{ℕ, ◌-◌, ◌*◌, ◌≤◌, ◌<◌}
 use native.Mathlib.Omega.{arith}
-use Rattle.std.specs.Prelude.{Result, Ok, Err, IfOk}
+use Rattle.std.specs.Prelude.{Result, Ok, Err}
 use borrow.Author.Tests.{lt-ltb, le-ltb, ltb-false}
 use lib.Dec.{ltb}
 use lib.ListN.{length, drop, set, length-drop}
-use Rattle.sheet.specs.declared.Refusal.{Refusal}
 use Rattle.sheet.specs.declared.Sheet.{Sheet}
 use Rattle.sheet.specs.HandedIn.{handed_in}
 use Rattle.sheet.specs.Lent.{and_then, or_short, after}
@@ -23,7 +22,8 @@ use Rattle.rule.specs.RowBytes.{roll_bytes, row_width}
 use Rattle.rule.specs.Selection.{roll_of}
 use Rattle.source.specs.Accepts.{Ready}
 use Rattle.cursor.specs.declared.NextRows.{NextRows}
-use Rattle.roll_steps.specs.Stepped.{step_returns, stepped, Stands, GoesOn}
+use Rattle.roll_steps.specs.declared.NoRoom.{NoRoom}
+use Rattle.roll_steps.specs.Stepped.{step_returns, stepped, step_of, Stands, GoesOn}
 use Rattle.roll_steps.proofs.Outcome.{every_row}
 use Rattle.c_sessions.specs.Steps.{session_size, shown, session_fits, judge, roll_of_bytes, numbers_at, start_gives, rows_behind, shown_then, advance_gives, running_gives}
 
@@ -94,7 +94,7 @@ module _ (s session : List ℕ) where
         let rows = roll_of_bytes s in
         ap gives (f ∙ ap (λ (m : ℕ). m - shown session) (sym every) ∙ sym (length-drop (shown session) rows)) ∙ said (gives (length (drop (shown session) rows)))
 
-    module _ (n : ℕ) (out : List ℕ) {exit : List ℕ} {a : Result NextRows Refusal} (h : GoesOn (roll_of (handed_in sheet)) (shown session) n out exit a) where
+    module _ (n : ℕ) (out : List ℕ) {exit : List ℕ} {a : Result NextRows NoRoom} (h : GoesOn (roll_of (handed_in sheet)) (shown session) n out exit a) where
       abbrev rows : List Row
       rows = rows_behind s session n
 
@@ -110,14 +110,14 @@ module _ (s session : List ℕ) where
       pub buffer : exit ≡ after R (roll_bytes rows) out
       buffer = goes.buffer ∙ ap (λ (v : Returned). after v (roll_bytes rows) out) step_said
 
-      pub step_refused : {r : Refusal} → a ≡ Err r → (refusal r ≡ R) × (session ≡ after R (numbers_at s (shown_then s session n)) session)
-      step_refused {r} g =
-          let j : refusal r ≡ R = ap stepped (sym g) ∙ goes.answer ∙ step_said in
+      pub step_refused : {e : NoRoom} → a ≡ Err e → (refusal e.refusal ≡ R) × (session ≡ after R (numbers_at s (shown_then s session n)) session)
+      step_refused {e} g =
+          let j : refusal e.refusal ≡ R = ap stepped (sym g) ∙ goes.answer ∙ step_said in
           (j, sym (kept (numbers_at s (shown_then s session n)) session (sym j)))
 
       pub advanced : {step : NextRows} {then : List ℕ} → a ≡ Ok step → then ≡ step.shown ∷ (step.running ∷ drop session_size session) → (gives step.count ≡ R) × (then ≡ after R (numbers_at s (shown_then s session n)) session)
       advanced {step} g f =
           let j : gives step.count ≡ R = ap stepped (sym g) ∙ goes.answer ∙ step_said in
-          let w : Stands (roll_of_bytes s) (shown session) n step = subst (λ (x : Result NextRows Refusal). IfOk x (Stands (roll_of_bytes s) (shown session) n)) g goes.stands in
+          let w : Stands (roll_of_bytes s) (shown session) n step = subst (λ (x : Result NextRows NoRoom). Stands (roll_of_bytes s) (shown session) n (step_of x)) g goes.stands in
           let c : step.running ≡ length (drop (shown_then s session n) (roll_of_bytes s)) = w.running ∙ ap (λ (k : ℕ). length (drop k (roll_of_bytes s))) w.shown in
           (j, f ∙ (λ i. w.shown i ∷ (c i ∷ drop session_size session)) ∙ sym (put (numbers_at s (shown_then s session n)) session (sym j)))

@@ -22,7 +22,7 @@ use Rattle.plain_run.proofs.Outcome.{tracks_count}
 use Rattle.row.specs.Written.{Written}
 use Rattle.cursor.specs.declared.NextRows.{NextRows}
 use Rattle.cursor.specs.Cursor.{Passes}
-use Rattle.roll_steps.specs.Stepped.{next_of, shown_then, GoesOn}
+use Rattle.roll_steps.specs.Stepped.{next_of, shown_then, Stands, GoesOn}
 use Rattle.roll_steps.proofs.Parts.{take_min, drop_min, rows_at}
 
 pub every_row : {s : Sheet} → Handed s → length (roll_of (handed_in s)) ≡ s.ntracks
@@ -76,11 +76,14 @@ module _ (roll : List Row) (shown n : ℕ) (before : List ℕ) {step : NextRows}
   running_then : step.running ≡ length (drop step.shown roll)
   running_then = p.running ∙ sym (length-drop step.shown roll)
 
-  pub too_short : length before < row_width * step.count → GoesOn roll shown n before before (Err (record { kind = OutputTooShort; place = row_width * step.count }))
+  stands : Stands roll shown n step
+  stands = record { shown = shown_then_lem; running = running_then }
+
+  pub too_short : length before < row_width * step.count → GoesOn roll shown n before before (Err (record { refusal = record { kind = OutputTooShort; place = row_width * step.count }; step = step }))
   unfolding and_then
   too_short h =
       let (a, b) = ending.too_short {v = accepted} (roll_bytes rows) before (length rows) refl (ap (λ (j : ℕ). row_width * j) as_many) h in
-      record { answer = a; stands = tt; buffer = b }
+      record { answer = a; stands = stands; buffer = b }
 
   pub steps_on : {exit : List ℕ} → row_width * step.count ≤ length before → Written (take step.count (drop step.from roll)) before exit → GoesOn roll shown n before exit (Ok step)
   unfolding and_then
@@ -90,4 +93,4 @@ module _ (roll : List Row) (shown n : ℕ) (before : List ℕ) {step : NextRows}
       ∙ ap (λ (l : List Row). roll_bytes l ++ drop (row_width * length l) before) same_rows
       ∙ ap (λ (j : ℕ). roll_bytes rows ++ drop j before) (sym (roll_bytes_length rows)) in
       let (a, b) = ending.stored {v = accepted} (roll_bytes rows) before (row_width * length rows) refl as_many (omega (arith, as_many)) g in
-      record { answer = a; stands = record { shown = shown_then_lem; running = running_then }; buffer = b }
+      record { answer = a; stands = stands; buffer = b }

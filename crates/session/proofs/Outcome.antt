@@ -1,5 +1,5 @@
 -- What the calls on a session return and leave, in each of their endings.
-use Rattle.std.specs.Prelude.{Result, Ok, Err, IfOk}
+use Rattle.std.specs.Prelude.{Result, Ok, Err}
 use mathlib.Core.Path.{◌≡◌, refl, sym, ap, ◌∙◌, subst}
 use mathlib.Core.List.{List}
 use Prim.Native.Nat.{ℕ, ◌+◌, ◌-◌, ◌*◌, min}
@@ -23,7 +23,8 @@ use Rattle.sheet.specs.Listing.{Listing, listing}
 use Rattle.plain_run.proofs.Outcome.{tracks_count}
 use Rattle.sheet.specs.Lent.{after}
 use Rattle.cursor.specs.declared.NextRows.{NextRows}
-use Rattle.roll_steps.specs.Stepped.{step_returns, stepped, Stands, GoesOn}
+use Rattle.roll_steps.specs.declared.NoRoom.{NoRoom}
+use Rattle.roll_steps.specs.Stepped.{step_returns, stepped, step_of, Stands, GoesOn}
 use Rattle.session.specs.declared.Session.{Session}
 use Rattle.session.specs.Stepping.{roll_in, rows_left, next_rows, shown_in, restart, begun, Restarts, advance_session, advance_of, Advances, running_of}
 
@@ -47,7 +48,7 @@ module _ (s : Session) (n : ℕ) (before : List ℕ) where
       record { answer = x; session = rw (sym x) refl; buffer = b }
 
   -- as the step through its roll goes
-  module _ {S : Listing} {exit : List ℕ} {r : Result NextRows Refusal} (ok : check_of s.sheet ≡ accepted) (o : S ≡ handed_in s.sheet) (h : GoesOn (roll_of S) s.shown n before exit r) where
+  module _ {S : Listing} {exit : List ℕ} {r : Result NextRows NoRoom} (ok : check_of s.sheet ≡ accepted) (o : S ≡ handed_in s.sheet) (h : GoesOn (roll_of S) s.shown n before exit r) where
     on : GoesOn (roll_in s) s.shown n before exit r
     on = subst (λ (T : Listing). GoesOn (roll_of T) s.shown n before exit r) o h
 
@@ -55,7 +56,7 @@ module _ (s : Session) (n : ℕ) (before : List ℕ) where
     unfolding and_then
     goes = rw ok refl
 
-    pub step_refused : (f : Refusal) → r ≡ Err f → Advances s n before s exit (Err f)
+    pub step_refused : (f : NoRoom) → r ≡ Err f → Advances s n before s exit (Err f.refusal)
     unfolding advance_session
     step_refused f e =
         let x = sym (ap stepped e) ∙ on.answer ∙ goes in
@@ -65,7 +66,7 @@ module _ (s : Session) (n : ℕ) (before : List ℕ) where
     unfolding advance_session
     step_on step e =
         let x = sym (ap stepped e) ∙ on.answer ∙ goes in
-        let stands : Stands (roll_in s) s.shown n step = subst (λ (z : Result NextRows Refusal). IfOk z (Stands (roll_in s) s.shown n)) e on.stands in
+        let stands : Stands (roll_in s) s.shown n step = subst (λ (z : Result NextRows NoRoom). Stands (roll_in s) s.shown n (step_of z)) e on.stands in
         let rows = next_rows s n in
         let count = (ending.gave (row_width * length rows) (length before) (length rows) (decided (listed_form s.sheet)) x).count in
         let shown = stands.shown ∙ ap (λ (j : ℕ). shown_in s + j) (sym count) in

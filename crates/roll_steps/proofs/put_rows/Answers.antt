@@ -18,4 +18,4 @@ returns-then-count-eq0 c =
 pub returns : goal.returns
 returns c =
     let z = c.args in
-    copied z.from z.count (roll_of (handed_in z.sheet)) _ (omega (arith, c.requires.1, every_row c.requires.0)) c.roll.ensures.is c.copy_from_slice.ensures.after refl
+    copied z.from z.count (roll_of (handed_in z.sheet)) _ (omega (arith, c.requires.1, every_row c.requires.0)) c.roll_for_step.ensures.is c.copy_from_slice.ensures.after refl
