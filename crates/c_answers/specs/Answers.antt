@@ -1,7 +1,13 @@
 -- Answers as numbers, for callers in other languages (SHEETS 11.1, 11.2).
-use Rattle.std.specs.Prelude.{List, ℕ}
+use Rattle.std.specs.Prelude.{List, ℕ, Result, Ok, Err}
 use Rattle.sheet.specs.Lent.{after}
 use Rattle.sheet.specs.Returned.{Returned, accepted, gives, refused}
+use Rattle.c_answers.specs.declared.Numbers.{Numbers}
+
+-- the answer of a call whose refusals are numbers alone, in the numbers of SHEETS 3.1
+abbrev pub answered_in_numbers : Result ℕ Numbers → Returned
+answered_in_numbers (Ok n) = gives n
+answered_in_numbers (Err r) = refused r.number r.place
 
 -- the table's number, 0 where nothing is refused
 abbrev pub number : Returned → ℕ
