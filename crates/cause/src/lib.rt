@@ -22,15 +22,16 @@ pub enum Class {
 }
 
 // What ends a tip, and when. The id is the partner's, 0 for the edge, who its index among the sheet's tracks or walls; `there` is when
-// a track was there; side is that from which the tip comes to it, none at the edge (SHEETS 4.14).
+// a track was there; side is that from which the tip comes to it, none at the edge (SHEETS 4.14). The two enums stand side by side: a gap
+// at the end would be copied along, in pieces that stall the next read.
 #[derive(Clone, Copy)]
 pub struct Cause {
     pub at: Fraction,
     pub class: Class,
+    pub side: Side,
     pub id: u16,
     pub who: usize,
     pub there: Fraction,
-    pub side: Side,
 }
 
 // Does a come before b: by time, then tracks, walls and the edge in this order, then by id (SHEETS 4.6, 4.9)?
