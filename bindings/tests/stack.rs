@@ -2,6 +2,9 @@
 
 use fissures::{Cell, Session, LONGEST_CELL, LONGEST_ROLL, LONGEST_SHEET, SHAPEFILES};
 use reference::cells::FIGURES;
+use reference::made_up::WHOLE;
+use reference::rng::Rng;
+use reference::sheet::{listing, Command};
 
 /// What is enough for any call.
 const STACK: usize = 256 * 1024;
@@ -26,10 +29,20 @@ fn calls(sheet: &[u8]) {
     session.reset().expect("an open session");
 }
 
+/// 256 tracks all over the sheet, so that a call that chooses between the runs takes the one with the larger tables; without walls and
+/// with many.
+fn spread() -> [Vec<u8>; 2] {
+    let all = WHOLE.accepted(&mut Rng::new(1), 1000);
+    let tracks: Vec<Command> = all.iter().copied().filter(|command| command.as_track().is_some()).collect();
+    assert_eq!(tracks.len(), 256, "as many tracks as a sheet holds");
+    [tracks, all].map(listing)
+}
+
 /// A call that takes more ends the program.
 #[test]
 fn every_call() {
-    for sheet in reference::chosen::late::sheets().into_iter().filter(|sheet| fissures::check(sheet).is_ok()) {
+    let sheets = reference::chosen::late::sheets().into_iter().chain(spread());
+    for sheet in sheets.filter(|sheet| fissures::check(sheet).is_ok()) {
         std::thread::scope(|scope| {
             let thread = std::thread::Builder::new().stack_size(STACK);
             thread.spawn_scoped(scope, || calls(&sheet)).expect("a thread");

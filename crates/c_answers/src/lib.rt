@@ -8,7 +8,7 @@ ghost use Rattle.c_answers.specs.Answers.{told, answered_in_numbers};
 
 use sheet::Refusal;
 
-// A refusal of which the numbers alone are known, any at all: the table's, and the place, length or figure beside it.
+// A refusal of which the numbers alone are known (SHEETS 11.1): one of the table's or any other, and the place, length or figure beside it.
 #[derive(Clone, Copy)]
 pub struct Numbers {
     pub number: u8,
@@ -59,8 +59,8 @@ pub fn tell<E: Refused>(answer: Result<usize, E>, second: &mut u64) -> u64
             *second = n as u64;
             0
         }
-        Err(refused) => {
-            let refusal = refused.numbers();
+        Err(error) => {
+            let refusal = error.numbers();
             *second = refusal.place as u64;
             u64::from(refusal.number)
         }

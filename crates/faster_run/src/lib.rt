@@ -1,4 +1,5 @@
-// The roll by the faster of the two runs (SHEETS 10.1: both give the same): the plain run on few tracks, the grid run on more.
+// The roll by the faster of the two runs (SHEETS 10.1: both give the same): the plain run on few tracks, the grid run on more; for a step
+// through a roll the plain run also where the grid parts few pairs of tracks.
 #![tactic(auto)]
 
 ghost use Rattle.std.specs.Prelude.{◌*◌, ◌≤◌, length};
@@ -16,8 +17,10 @@ const FEW_TRACKS: usize = 16;
 // The figure (SHEETS 6.1) at which the grid run is mostly the fastest on more, as measured.
 const FIGURE: u64 = 8;
 
-// The side of its cells, and how many they are (SHEETS 6.1).
+// Its cells (SHEETS 6.1): their side, how many there are along each side of the sheet, and in all.
 const SIDE: u16 = 512;
+
+const ALONG: u16 = 8;
 
 const CELLS: usize = 64;
 
@@ -39,7 +42,7 @@ pub fn roll(sheet: Sheet, out: &mut [u8])
     }
 }
 
-// Does the grid part few pairs? Walls speak for it: each counts as half a pair apart for each track. At most 256 tracks and walls come, so
+// Does the grid part few pairs? Walls speak for it: two of them count as a pair apart for each track. At most 256 tracks and walls come, so
 // that no sum saturates.
 fn is_crowded(tracks: &[Track], walls: usize) -> bool {
     let mut starts = [0usize; CELLS];
@@ -47,7 +50,7 @@ fn is_crowded(tracks: &[Track], walls: usize) -> bool {
     let mut apart: usize = 0;
     let mut before: usize = 0;
     for a in tracks {
-        let cell = (a.x / SIDE % 8 * 8 + a.y / SIDE % 8) as usize;
+        let cell = (a.x / SIDE % ALONG * ALONG + a.y / SIDE % ALONG) as usize;
         let here = starts[cell];
         together = together.saturating_add(here);
         apart = apart.saturating_add(before.saturating_sub(here));

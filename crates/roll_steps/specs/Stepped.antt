@@ -24,7 +24,7 @@ abbrev pub stepped : Result NextRows NoRoom → Returned
 stepped (Ok step) = gives step.count
 stepped (Err e) = refusal e.refusal
 
--- the step itself, of a refused one too
+-- the step itself (SHEETS 7.2), of a refused one too
 abbrev pub step_of : Result NextRows NoRoom → NextRows
 step_of (Ok step) = step
 step_of (Err e) = e.step

@@ -12,7 +12,7 @@ ghost use Rattle.roll_steps.specs.Stepped.{GoesOn};
 use cursor::NextRows;
 use sheet::{Refusal, RefusalKind, Sheet};
 
-// Why a step writes nothing, and the step all the same: where a session would stand behind its rows.
+// Why a step writes nothing (SHEETS 3.9, 3.10), and the step all the same: where a session would stand behind its rows.
 #[derive(Clone, Copy)]
 pub struct NoRoom {
     pub refusal: Refusal,
