@@ -62,11 +62,11 @@ pub enum Shape {
     Trace(f64, f64, f64, f64),
 }
 
-// A point of a shape that has been taken apart.
+// A point of a shape that has been taken apart. Public, since the definitions in specs/Shapes speak of it.
 #[derive(Clone, Copy)]
-struct Point {
-    x: f64,
-    y: f64,
+pub struct Point {
+    pub x: f64,
+    pub y: f64,
 }
 
 // The box (SHEETS 12.6): least x, least y, greatest x, greatest y.

@@ -10,6 +10,7 @@ use native.Mathlib.Omega.{arith}
 use lib.Dec.{eqb}
 use lib.ListN.{length, take, drop, set, length-append}
 use lib.Seq.{sets, take_all, take_at, take-append-le, length-take-le}
+use Rattle.std.proofs.lemmas.List.{take-map}
 use Rattle.byte_order.proofs.Stores.{sets-both, sets_front}
 use Rattle.sheet.specs.declared.Track.{Track}
 use Rattle.sheet.specs.declared.Wall.{Wall}
@@ -111,6 +112,15 @@ module _ {A : Type 0} (f : A → Command) (l : List A) (blank : A) (n : ℕ) whe
     unfolding run
     more-length = rw (more_claimed, run-append, append-nil)
         (length-append (run (map f l)) (encode (f blank)) ∙ ap (λ k. length (run (map f l)) + k) (encode-length (f blank)))
+
+  -- the same records, put into commands first
+  module _ {commands : List Command} (e : commands ≡ map f l) where
+    claimed : take n (commands ++ (f blank ∷ [])) ≡ map f (take n (l ++ (blank ∷ [])))
+    claimed = rw (e, ← map-append f l (blank ∷ [])) (take-map f n (l ++ (blank ∷ [])))
+
+    pub claimed_ran : {at end : ℕ} {before after : List ℕ} → Ran at (take n (commands ++ (f blank ∷ []))) before after end
+        → Ran at (map f (take n (l ++ (blank ∷ [])))) before after end
+    claimed_ran {at} {end} {before} {after} h = rw claimed at h
 
   -- each record's command has at most w bytes
   pub claimed_length : (w : ℕ) → ((a : A) → width (f a) ≤ w) → length (run (map f (take n (l ++ (blank ∷ []))))) ≤ length l * w + width (f blank)
